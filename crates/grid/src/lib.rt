@@ -1,0 +1,5 @@
+// Sample kinds, and the places of a grid that is stored row by row.
+
+pub mod kinds;
+pub mod sample;
+pub mod size;

@@ -1,0 +1,9 @@
+pub mod Fields
+pub mod Sections
+pub mod Blocks
+pub mod Numbers
+pub mod Accepted
+pub mod Decoded
+pub mod Encoded
+pub mod Exactly
+pub mod Stored

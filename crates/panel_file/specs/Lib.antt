@@ -1,0 +1,7 @@
+pub mod Refusal
+pub mod Field
+pub mod Layout
+pub mod Open
+pub mod Fill
+pub mod Format
+pub mod Laws
