@@ -3,3 +3,5 @@
 pub mod kinds;
 pub mod sample;
 pub mod size;
+#[cfg(test)]
+mod tests;
