@@ -19,7 +19,10 @@ on-grid size p = (leb 1 (p .row) && leb (p .row) (size .rows)) && (leb 1 (p .col
 abbrev pub index-on : GridSize → Place → Option ℕ
 index-on size p = cond (on-grid size p) (Some (index (size .columns) (p .row) (p .column))) None
 
--- The place at an index, and none past the last.
+-- The place at an index.
+abbrev pub place-at : GridSize → ℕ → Place
+place-at size k = record { row = k / size .columns + 1; column = k % size .columns + 1 }
+
+-- The same, and none past the last.
 abbrev pub place-on : GridSize → ℕ → Option Place
-place-on size k =
-    cond (ltb k (size .rows * size .columns)) (Some (record { row = k / size .columns + 1; column = k % size .columns + 1 })) None
+place-on size k = cond (ltb k (size .rows * size .columns)) (Some (place-at size k)) None

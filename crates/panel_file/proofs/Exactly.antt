@@ -7,6 +7,7 @@ use lib.IntN.{ℤ}
 use lib.ListN.{length}
 use mathlib.Core.List.{List}
 use mathlib.Core.Path.{_≡_, refl, sym, ap, ap₂, subst, _∙_}
+use Rattle.std.specs.Vec.{made}
 use Rattle.std.specs.declared.result.Result.{Result}
 use Rattle.std.specs.declared.result.Result.the-variants.{Ok, Err}
 use Rattle.std.proofs.shelf.Tests.{eqb-true, eq-eqb}
@@ -21,7 +22,7 @@ use Rattle.panel_file.specs.Field.{Answer, refused, byte-at}
 use Rattle.panel_file.specs.Layout.{parts-of}
 use Rattle.panel_file.specs.Format.{Contents, Holds, encode}
 use Rattle.panel_file.specs.Open.{Summary, open-answer, summary, open-result}
-use Rattle.panel_file.specs.Fill.{FillAnswer, of-file, fill-answer, samples-of, fill-grid}
+use Rattle.panel_file.specs.Fill.{FillAnswer, of-file, fill-answer, samples-of}
 use Rattle.panel_file.specs.Laws.{Opens-exactly, One-encoding, Fills-exactly}
 use Rattle.panel_file.proofs.Accepted.{accepted, admitted}
 use Rattle.panel_file.proofs.Decoded.{decode, valid, encodes}
@@ -53,7 +54,7 @@ module _ (file : List ℕ) (bytes : (at : ℕ) → byte-at file at < 256) where
 abbrev places : List ℕ → ℕ
 places file = byte-at file 2 * byte-at file 3
 
-pub record Fits (parts : ℕ) (file : List ℕ) (room : ℕ) : Type 0 where
+record Fits (parts : ℕ) (file : List ℕ) (room : ℕ) : Type 0 where
   pub opened : open-answer file ≡ Ok tt
   pub own-parts : byte-at file 4 ≡ parts
   pub own-room : room ≡ places file
@@ -70,7 +71,7 @@ module _ (parts : ℕ) (file : List ℕ) (room : ℕ) where
   from-file (Ok tt) h = refl
   from-file (Err refusal) h = search needs
 
-  pub fits : Ok tt ≡ fill-answer parts file room → Fits parts file room
+  fits : Ok tt ≡ fill-answer parts file room → Fits parts file room
   fits h =
       let file-and-grid = both-good (of-file (open-answer file)) (then kind size) (sym h) in
       let grid = both-good kind size (file-and-grid .1) in
@@ -87,18 +88,22 @@ module _ (parts : ℕ) (file : List ℕ) (room : ℕ) where
       ∙ holds-good (eqb room (places file)) GridLength (eq-eqb _ _ (f .own-room))
 
   -- The file has all samples that the grid has room for.
-  pub enough : Ok tt ≡ fill-answer parts file room → 7 + room * (parts * 4) ≤ length file
+  enough : Ok tt ≡ fill-answer parts file room → 7 + room * (parts * 4) ≤ length file
   enough h =
       let f = fits h in
       let counted : 7 + places file * byte-at file 4 * 4 + 2 ≤ length file = accepted file (f .opened) .name-counted in
       rw (f .own-room, ← f .own-parts) (omega arith)
 
-  pub filled : ((at : ℕ) → byte-at file at < 256) → Ok tt ≡ fill-answer parts file room → (grid : List (List ℤ)) → grid ≡ samples-of file parts room → Fills-exactly parts file (Ok tt) grid
+  pub enough-by : (r : FillAnswer) → r ≡ fill-answer parts file room → made r (λ _. 7 + room * (parts * 4) ≤ length file)
+  enough-by (Ok tt) h = enough h
+  enough-by (Err fault) h = tt
+
+  filled : ((at : ℕ) → byte-at file at < 256) → Ok tt ≡ fill-answer parts file room → (grid : List (List ℤ)) → grid ≡ samples-of file parts room → Fills-exactly parts file (Ok tt) grid
   filled bytes h grid e =
       let f = fits h in
       (decode file, holds file bytes (f .opened), f .own-parts, e ∙ ap₂ (samples-of file) (sym (f .own-parts)) (f .own-room))
 
-  pub unfilled : (fault : FillFault) → Err fault ≡ fill-answer parts file room → (grid : List (List ℤ)) → length grid ≡ room → Fills-exactly parts file (Err fault) grid
+  unfilled : (fault : FillFault) → Err fault ≡ fill-answer parts file room → (grid : List (List ℤ)) → length grid ≡ room → Fills-exactly parts file (Err fault) grid
   unfilled fault h grid long c held same-parts same-length =
       let same : decode file ≡ c = only file c held in
       let rows : byte-at file 2 ≡ c .rows = ap (λ d. d .rows) same in
@@ -107,11 +112,8 @@ module _ (parts : ℕ) (file : List ℕ) (room : ℕ) where
       let z : _≡_ {A = FillAnswer} (Ok tt) (Err fault) = sym (admits f) ∙ sym h in
       search needs
 
--- The grid after either answer.
-module _ (parts : ℕ) (file : List ℕ) (room : ℕ) (grid : List (List ℤ)) (long : length grid ≡ room) where
-  pub grid-kept : (fault : FillFault) → Err fault ≡ fill-answer parts file room → grid ≡ fill-grid parts file grid
-  grid-kept fault h = ap (λ a. if-ok a (samples-of file parts (length grid)) grid) (h ∙ ap (fill-answer parts file) (sym long))
-
-  pub grid-written : Ok tt ≡ fill-answer parts file room → (new : List (List ℤ)) → new ≡ samples-of file parts room → new ≡ fill-grid parts file grid
-  grid-written h new e =
-      e ∙ ap (samples-of file parts) (sym long) ∙ ap (λ a. if-ok a (samples-of file parts (length grid)) grid) (h ∙ ap (fill-answer parts file) (sym long))
+-- From the answer and the grid that either leaves.
+pub fills : (parts : ℕ) (file : List ℕ) → ((at : ℕ) → byte-at file at < 256) → (room : ℕ) (r : FillAnswer) (old new : List (List ℤ)) → length old ≡ room →
+    r ≡ fill-answer parts file room → new ≡ if-ok r (samples-of file parts room) old → Fills-exactly parts file r new
+fills parts file bytes room (Ok tt) old new long h e = filled parts file room bytes h new e
+fills parts file bytes room (Err fault) old new long h e = unfilled parts file room fault h new (ap length e ∙ long)

@@ -1,9 +1,8 @@
 -- The three sections one after the other, as `checked` walks them: A, B and N are their answers.
-use Prim.Native.Nat.{ℕ, _+_, _-_}
-use lib.ListN.{length, take, drop}
+use Prim.Native.Nat.{ℕ, _+_}
+use lib.ListN.{drop}
 use mathlib.Core.List.{List}
 use mathlib.Core.Path.{_≡_, sym, ap, ap₂, _∙_}
-use Rattle.std.proofs.shelf.Lists.{take-rest}
 use Rattle.std.specs.declared.result.Result.{Result}
 use Rattle.std.specs.declared.result.Result.the-variants.{Ok, Err}
 use Rattle.grid.specs.Checks.{then}
@@ -70,11 +69,15 @@ module _ (file : List ℕ) where
           ap₂ (λ p k. Ok (p .0, p .1, k + 2)) sizes (second .1)
           ∙ sym (over (open-answer file) (Ok (found file)) tt (third (Ok tt) n))
 
--- What `open` makes of what was found: the name runs to the end of the file.
-pub summed : (file : List ℕ) (f : Found) → Ok f ≡ then (open-answer file) (Ok (found file)) →
-    Ok (record { size = f .0; parts = f .1; name = take (length file - f .2) (drop (f .2) file) }) ≡ open-result file
+-- What a file that was found good says.
+abbrev pub said : List ℕ → Found → Summary
+said file f = record { size = f .0; parts = f .1; name = drop (f .2) file }
+
+pub said-is : (file : List ℕ) (f : Found) (s : Summary) → s .size ≡ f .0 → s .parts ≡ f .1 → s .name ≡ drop (f .2) file → s ≡ said file f
+said-is file f s size parts name =
+    ap₂ (λ a b. record { size = a; parts = b; name = s .name }) size parts ∙ ap (λ l. record { size = f .0; parts = f .1; name = l }) name
+
+pub summed : (file : List ℕ) (f : Found) → Ok f ≡ then (open-answer file) (Ok (found file)) → Ok (said file f) ≡ open-result file
 summed file f h =
     let p = passed-by (open-answer file) (found file) f h in
-    ap (λ l. Ok (record { size = f .0; parts = f .1; name = l })) (take-rest file (f .2))
-    ∙ ap (λ (g : Found). Ok (record { size = g .0; parts = g .1; name = drop (g .2) file })) (p .1)
-    ∙ sym (over (open-answer file) (Ok (summary file)) tt (p .0))
+    ap (λ g. Ok (said file g)) (p .1) ∙ sym (over (open-answer file) (Ok (summary file)) tt (p .0))

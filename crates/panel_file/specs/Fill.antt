@@ -1,13 +1,12 @@
--- What `fill` answers, and what it leaves in the grid.
+-- What `fill` answers, and the samples that it writes.
 use Prim.Native.Nat.{ℕ, _+_, _*_}
 use lib.Dec.{eqb}
 use lib.IntN.{ℤ}
-use lib.ListN.{length}
 use mathlib.Core.List.{List, map}
 use Rattle.std.specs.Iters.{counting}
 use Rattle.std.specs.declared.result.Result.{Result}
 use Rattle.std.specs.declared.result.Result.the-variants.{Ok, Err}
-use Rattle.grid.specs.Checks.{check, then, if-ok}
+use Rattle.grid.specs.Checks.{check, then}
 use Rattle.panel_file.specs.declared.refusal.FileFault.the-variants.{WrongParts}
 use Rattle.panel_file.specs.declared.refusal.FileRefusal.{FileRefusal}
 use Rattle.panel_file.specs.declared.refusal.FillFault.{FillFault}
@@ -39,7 +38,3 @@ parts-at file count at = map (λ k. part-at file (at + k * 4)) (counting 0 count
 -- So many samples from offset 7 on.
 abbrev pub samples-of : List ℕ → ℕ → ℕ → List (List ℤ)
 samples-of file parts count = map (λ i. parts-at file parts (7 + i * (parts * 4))) (counting 0 count)
-
--- The grid afterwards: the file's samples, or what it held if the answer is a refusal.
-abbrev pub fill-grid : ℕ → List ℕ → List (List ℤ) → List (List ℤ)
-fill-grid parts file grid = if-ok (fill-answer parts file (length grid)) (samples-of file parts (length grid)) grid

@@ -18,8 +18,11 @@ pub record Summary : Type 0 where
   pub name : List ℕ
 
 -- An opened file, with the bytes of its name in place of where they stand.
+abbrev pub said-by : PanelFile → Summary
+said-by opened = record { size = opened .size; parts = opened .parts; name = now (opened .name) }
+
 abbrev pub shown : Result PanelFile FileRefusal → Result Summary FileRefusal
-shown (Ok opened) = Ok (record { size = opened .size; parts = opened .parts; name = now (opened .name) })
+shown (Ok opened) = Ok (said-by opened)
 shown (Err refusal) = Err refusal
 
 -- All checks of a file.

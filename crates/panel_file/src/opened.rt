@@ -1,7 +1,7 @@
 // Opening a panel file: all of its checks, and what it says of itself.
 ghost use mathlib.Core.Path.{_≡_};
 ghost use Prim.Native.Nat.{_≤_};
-ghost use lib.ListN.{length};
+ghost use lib.ListN.{length, drop};
 ghost use Rattle.grid.specs.Checks.{then};
 ghost use Rattle.panel_file.specs.Laws.{Opens-exactly, One-encoding};
 ghost use Rattle.panel_file.specs.Layout.{size-of, parts-of};
@@ -34,13 +34,24 @@ pub(crate) fn checked(file: &[u8]) -> Result<(GridSize, u8, usize), FileRefusal>
     Ok((size, parts, at + 2))
 }
 
+// What a file says that passed all checks.
+fn said(file: &[u8], found: (GridSize, u8, usize)) -> PanelFile<'_>
+    requires { ⌜ found .2 ≤ length (now file) ⌝ }
+    ensures size { λ r. ⌜ r .size ≡ found .0 ⌝ }
+    ensures parts { λ r. ⌜ r .parts ≡ found .1 ⌝ }
+    ensures name { λ r. ⌜ now (r .name) ≡ drop (found .2) (now (file .entry)) ⌝ }
+{
+    let (size, parts, begin) = found;
+    let (_, name) = file.split_at(begin);
+    PanelFile { size, parts, name }
+}
+
 // Any bytes: what they say as a panel file, or the first field that is refused.
 pub fn open(file: &[u8]) -> Result<PanelFile<'_>, FileRefusal>
     ensures answer { λ r. ⌜ shown r ≡ open-result (now (file .entry)) ⌝ }
     ensures exact { λ r. ⌜ Opens-exactly (now (file .entry)) (shown r) ⌝ }
     ensures one_content { λ _. ⌜ One-encoding ⌝ }
 {
-    let (size, parts, begin) = checked(file)?;
-    let name = &file[begin..];
-    Ok(PanelFile { size, parts, name })
+    let found = checked(file)?;
+    Ok(said(file, found))
 }

@@ -1,8 +1,13 @@
-use mathlib.Core.Path.{sym}
-use Rattle.grid.proofs.Places.{On, index-is, place-back}
+use mathlib.Core.Path.{ap, sym, _∙_}
+use Rattle.std.specs.declared.option.Option.the-variants.{Some}
+use Rattle.grid.specs.Place.{place-on}
+use Rattle.grid.proofs.Places.{on-told, index-is, place-back}
 use Rattle.grid.proofs.size.GridSize.index_of.Needs as need
 
-pub returns : need.returns
-returns c =
-    let on : On (c .args .self) (c .args .place) = record { row-first = c .if-row-lt1 .left; row-last = c .if-row-rows .left; column-first = c .if-column-lt1 .left; column-last = c .if-column-columns .left } in
-    record { value = sym (index-is (c .args .self) (c .args .place) on); back = place-back (c .args .self) (c .args .place) on }
+pub returns-then-has : need.returns-then-has
+returns-then-has c =
+    let on = on-told (c .args .self) (c .args .place) (sym (c .if-has .ensures tt)) in
+    record {
+      value = ap Some (c .index .ensures) ∙ sym (index-is (c .args .self) (c .args .place) on);
+      back = ap (place-on (c .args .self)) (c .index .ensures) ∙ place-back (c .args .self) (c .args .place) on;
+    }
