@@ -8,15 +8,13 @@ use panel_file::FileFault;
 use panel_file::FileRefusal;
 use panel_file::FillFault;
 use panel_file::PanelFile;
+use panel_file::enough;
 use panel_file::fill;
 use panel_file::open;
 use std::env;
 use std::fs;
 use std::io;
 use std::io::Read;
-
-// The longest panel file has 49,201 bytes: 64 by 64 points and a name of 40. One byte more shows that a file is longer.
-const ENOUGH: u64 = 49_202;
 
 // What a carver can do about a fault of the file.
 fn advice(fault: FileFault) -> &'static str {
@@ -92,7 +90,7 @@ fn print_file(rt: &LibcRuntime, bytes: &[u8]) -> io::Result<()> {
 // Reads no more than tells whether the input is a panel file.
 fn read_input<R: Read + Drop>(rt: &LibcRuntime, input: R) -> io::Result<Vec<u8>> {
     let mut bytes = Vec::new(rt.alloc());
-    input.take(ENOUGH).read_to_end(&mut bytes)?;
+    input.take(enough() as u64).read_to_end(&mut bytes)?;
     Ok(bytes)
 }
 

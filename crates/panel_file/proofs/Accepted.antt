@@ -44,7 +44,7 @@ pub record Accepted (file : List ℕ) : Type 0 where
 
 -- Tests and what they say
 
-sized : (n : ℕ) → size-fits n ≡ true → Sized n
+pub sized : (n : ℕ) → size-fits n ≡ true → Sized n
 sized n h = let p = and-parts (leb 2 n) (leb n 64) h in (leb-true _ _ (p .0), leb-true _ _ (p .1))
 
 fits : (n : ℕ) → Sized n → size-fits n ≡ true
@@ -56,7 +56,7 @@ printed b h = let p = and-parts (leb 32 b) (leb b 126) h in (leb-true _ _ (p .0)
 prints : (b : ℕ) → (32 ≤ b) × (b ≤ 126) → printable b ≡ true
 prints b h = and-from (leb 32 b) (leb b 126) (le-leb _ _ (h .0)) (le-leb _ _ (h .1))
 
-one-or-three : (n : ℕ) → parts-fit n ≡ true → (n ≡ 1) ⊎ (n ≡ 3)
+pub one-or-three : (n : ℕ) → parts-fit n ≡ true → (n ≡ 1) ⊎ (n ≡ 3)
 one-or-three n h = go (or-cases (eqb n 1) (eqb n 3) h)
   where
     go : (eqb n 1 ≡ true) ⊎ (eqb n 3 ≡ true) → (n ≡ 1) ⊎ (n ≡ 3)

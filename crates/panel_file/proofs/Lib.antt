@@ -7,3 +7,4 @@ pub mod Decoded
 pub mod Encoded
 pub mod Exactly
 pub mod Stored
+pub mod Cut

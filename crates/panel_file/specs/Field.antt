@@ -18,6 +18,7 @@ use Rattle.panel_file.specs.declared.refusal.Section.{Section}
 abbrev pub Answer : Type 0
 Answer = Result (Unit {0}) FileRefusal
 
+-- A fault of the field at an offset.
 abbrev pub refused : FileFault → Section → ℕ → FileRefusal
 refused fault section offset = record { fault = fault; section = section; offset = offset }
 
@@ -38,7 +39,7 @@ abbrev pub part-at : List ℕ → ℕ → ℤ
 part-at file at =
     signed (byte-at file at + byte-at file (at + 1) * 256 + byte-at file (at + 2) * 65536 + byte-at file (at + 3) * 16777216)
 
--- The file has all bytes of a field.
+-- The file has all bytes of a field of some width.
 abbrev pub present : List ℕ → Section → ℕ → ℕ → Answer
 present file section width at = check (leb (at + width) (length file)) (refused EndsEarly section at)
 

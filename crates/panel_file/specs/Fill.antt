@@ -16,6 +16,7 @@ use Rattle.panel_file.specs.Field.{refused, part-at}
 use Rattle.panel_file.specs.Layout.{size-of, parts-of}
 use Rattle.panel_file.specs.Open.{open-answer}
 
+-- What `fill` can answer.
 abbrev pub FillAnswer : Type 0
 FillAnswer = Result (Unit {0}) FillFault
 

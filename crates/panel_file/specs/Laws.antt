@@ -1,7 +1,7 @@
 -- What a reader wants to know of `open` and `fill`: a file is accepted exactly when it encodes contents within the limits.
 use Prim.Native.Nat.{ℕ}
 use lib.IntN.{ℤ}
-use lib.ListN.{length}
+use lib.ListN.{length, take}
 use mathlib.Core.List.{List}
 use mathlib.Core.Path.{_≡_}
 use Rattle.std.specs.Results.{Cases}
@@ -9,7 +9,7 @@ use Rattle.std.specs.declared.result.Result.{Result}
 use Rattle.panel_file.specs.declared.refusal.FileRefusal.{FileRefusal}
 use Rattle.panel_file.specs.declared.refusal.FillFault.{FillFault}
 use Rattle.panel_file.specs.Format.{Contents, Valid, Holds, encode}
-use Rattle.panel_file.specs.Open.{Summary}
+use Rattle.panel_file.specs.Open.{Summary, open-result}
 
 -- What an opened file says of its contents.
 abbrev pub summed-up : Contents → Summary
@@ -29,3 +29,7 @@ abbrev pub Fills-exactly : ℕ → List ℕ → Result (Unit {0}) FillFault → 
 Fills-exactly parts file r grid =
     Cases r (λ _. (c : Contents) × Holds file c × (c .parts ≡ parts) × (grid ≡ c .samples))
     (λ _. (c : Contents) → Holds file c → c .parts ≡ parts → length (c .samples) ≡ length grid → ⊥)
+
+-- So many bytes of a file are enough: what stands after them changes no answer.
+abbrev pub Enough : ℕ → Type 0
+Enough n = (file : List ℕ) → open-result (take n file) ≡ open-result file

@@ -30,7 +30,7 @@ part-fits v = leb (natAbs v) 100000
 abbrev pub printable : ℕ → Bool
 printable b = leb 32 b && leb b 126
 
--- Section 1.
+-- Section 1, and what its fields say.
 abbrev pub sizes-answer : List ℕ → Answer
 sizes-answer file =
     then (field file Sizes WrongCount 2 (λ at. eqb (count-at file at) 3) 0)
@@ -38,9 +38,11 @@ sizes-answer file =
     (then (field file Sizes WrongSize 1 (λ at. size-fits (byte-at file at)) 3)
     (field file Sizes WrongParts 1 (λ at. parts-fit (byte-at file at)) 4)))
 
+-- Rows and columns.
 abbrev pub size-of : List ℕ → GridSize
 size-of file = record { rows = byte-at file 2; columns = byte-at file 3 }
 
+-- How many parts a sample has.
 abbrev pub parts-of : List ℕ → ℕ
 parts-of file = byte-at file 4
 
@@ -48,12 +50,13 @@ parts-of file = byte-at file 4
 abbrev pub parts-from : List ℕ → ℕ → ℕ → Answer
 parts-from file count at = fields file Samples PartBeyond 4 (λ at. part-fits (part-at file at)) count at
 
--- Section 2, and the offset at which it ends.
+-- Section 2.
 abbrev pub samples-answer : List ℕ → GridSize → ℕ → Answer
 samples-answer file size parts =
     then (field file Samples WrongCount 2 (λ at. eqb (count-at file at) (size .rows * size .columns)) 5)
     (parts-from file (size .rows * size .columns * parts) 7)
 
+-- The offset at which section 2 ends.
 abbrev pub samples-end : GridSize → ℕ → ℕ
 samples-end size parts = 7 + size .rows * size .columns * parts * 4
 

@@ -21,6 +21,7 @@ pub record Summary : Type 0 where
 abbrev pub said-by : PanelFile → Summary
 said-by opened = record { size = opened .size; parts = opened .parts; name = now (opened .name) }
 
+-- The same of an answer; a refusal is as it is.
 abbrev pub shown : Result PanelFile FileRefusal → Result Summary FileRefusal
 shown (Ok opened) = Ok (said-by opened)
 shown (Err refusal) = Err refusal

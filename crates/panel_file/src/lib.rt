@@ -8,6 +8,7 @@ mod section;
 
 pub use filled::fill;
 pub use opened::PanelFile;
+pub use opened::enough;
 pub use opened::open;
 pub use refusal::FileFault;
 pub use refusal::FileRefusal;

@@ -3,7 +3,7 @@ ghost use mathlib.Core.Path.{_≡_};
 ghost use Prim.Native.Nat.{_≤_};
 ghost use lib.ListN.{length, drop};
 ghost use Rattle.grid.specs.Checks.{then};
-ghost use Rattle.panel_file.specs.Laws.{Opens-exactly, One-encoding};
+ghost use Rattle.panel_file.specs.Laws.{Opens-exactly, One-encoding, Enough};
 ghost use Rattle.panel_file.specs.Layout.{size-of, parts-of};
 ghost use Rattle.panel_file.specs.Open.{shown, open-answer, name-begin, open-result};
 ghost use Rattle.std.specs.Vec.{made};
@@ -54,4 +54,19 @@ pub fn open(file: &[u8]) -> Result<PanelFile<'_>, FileRefusal>
 {
     let found = checked(file)?;
     Ok(said(file, found))
+}
+
+// The longest file: 64 by 64 points and a name of 40 bytes.
+fn longest() -> usize
+    ensures { λ r. ⌜ r ≡ 49201 ⌝ }
+{
+    7 + 64 * 64 * 3 * 4 + 2 + 40
+}
+
+// How many bytes of a file are enough to open it, however long it is: one more than the longest has.
+pub fn enough() -> usize
+    ensures value { λ r. ⌜ r ≡ 49202 ⌝ }
+    ensures alike { λ r. ⌜ Enough r ⌝ }
+{
+    longest() + 1
 }

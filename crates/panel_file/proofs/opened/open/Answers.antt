@@ -16,6 +16,6 @@ pub returns : need.returns
 returns c =
     let file = c .args .file .now in
     let answer : shown (Ok (c .said .result)) ≡ open-result file =
-        ap Ok (said-is file (c .in-Continue-found .found) (said-by (c .said .result)) (c .said .ensures .size) (c .said .ensures .parts) (c .said .ensures .name))
-        ∙ summed file (c .in-Continue-found .found) (c .in-Continue-found .ensures tt .answer) in
+    ap Ok (said-is file (c .in-Continue-found .found) (said-by (c .said .result)) (c .said .ensures .size) (c .said .ensures .parts) (c .said .ensures .name))
+    ∙ summed file (c .in-Continue-found .found) (c .in-Continue-found .ensures tt .answer) in
     record { answer = answer; exact = opens file (λ at. c .typed .file at .fits) _ answer; one-content = one-encoding }
