@@ -1,0 +1,2 @@
+-- Lemmas about the words of a text.
+pub mod Sofar
