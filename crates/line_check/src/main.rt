@@ -14,12 +14,18 @@ use tally::Tally;
 fn show(rt: &impl Print, name: &str, tally: &Tally) -> io::Result<()> {
     let lines = tally.lines;
     let places = tally.places;
-    let worst = tally.worst;
     let missed = tally.missed;
     println!(
         rt,
-        "{name}: {lines} lines, {places} places, worst residual {worst}, beyond the grade {missed}"
+        "{name}: {lines} lines, {places} places, beyond the grade {missed}"
     )
+}
+
+// The same, and the worst residual: only where exact fractions settle it beforehand.
+fn show_worst(rt: &impl Print, name: &str, tally: &Tally) -> io::Result<()> {
+    show(rt, name, tally)?;
+    let worst = tally.worst;
+    println!(rt, "  worst residual {worst}")
 }
 
 fn main(rt: LibcRuntime) -> io::Result<()> {
@@ -28,10 +34,10 @@ fn main(rt: LibcRuntime) -> io::Result<()> {
         rt,
         "elimination, grade {grade}, lines of 2 to 64 numbers up to 5000000 either way"
     )?;
-    show(&rt, "constant", &lines::constant())?;
-    show(&rt, "alternating", &lines::alternating())?;
-    show(&rt, "single peak", &lines::single_peak())?;
-    let mut random = Random::new(110);
+    show_worst(&rt, "constant", &lines::constant())?;
+    show_worst(&rt, "alternating", &lines::alternating())?;
+    show_worst(&rt, "single peak", &lines::single_peak())?;
+    let mut random = Random::new(1);
     show(&rt, "random signs", &lines::random_signs(&mut random))?;
     show(&rt, "random numbers", &lines::random_numbers(&mut random))
 }
