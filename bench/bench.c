@@ -56,6 +56,16 @@ static double nanoseconds(solver *solve) {
     return run[RUNS / 2];
 }
 
+/* Whether each residual of x lies within 3. */
+static int within_grade(const int64_t *k, const int64_t *x, size_t n) {
+    for (size_t j = 0; j < n; j++) {
+        int64_t sum = x[j ? j - 1 : 0] + 4 * x[j] + x[j + 1 < n ? j + 1 : j];
+        if (sum - 6 * k[j] > 3 || sum - 6 * k[j] < -3) return 0;
+    }
+    return 1;
+}
+
+/* The same steps give the same answers; the other baseline keeps the same grade. */
 static void agree(void) {
     int64_t proved[N];
     for (int i = 0; i < 1000; i++) {
@@ -63,6 +73,10 @@ static void agree(void) {
         for (size_t n = 2; n <= N; n++) {
             if (line_eliminate(line, n, proved, n) || plain_eliminate(line, n, out, n) || memcmp(proved, out, n * sizeof *out)) {
                 fprintf(stderr, "the answers differ at length %zu\n", n);
+                exit(1);
+            }
+            if (plain_rounding(line, n, out, n) || !within_grade(line, out, n)) {
+                fprintf(stderr, "the baseline with rounded products misses the grade at length %zu\n", n);
                 exit(1);
             }
         }

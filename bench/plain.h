@@ -10,5 +10,5 @@ void plain_sweeps(const int64_t *line, int64_t *out, size_t n);
 /* The same steps as the proved solver: the checks, then both sweeps, products rounded down. */
 uint32_t plain_eliminate(const int64_t *line, size_t n, int64_t *out, size_t room);
 
-/* As it was first written: the same checks and recurrences, 2^32 finer units, pivots in parts of 2^62, each product rounded to nearest. */
+/* The same checks and recurrences with finer numbers: 2^32 finer units, pivots in parts of 2^62, each product rounded to nearest. */
 uint32_t plain_rounding(const int64_t *line, size_t n, int64_t *out, size_t room);

@@ -21,19 +21,21 @@ pub record First (text word rest : List ℕ) : Type 0 where
   pub solid : Without white word
   pub ends : (more : List ℕ) × Opens white rest more
 
--- These are all words of a text, in their order.
-abbrev pub Words : List ℕ → List (List ℕ) → Type 0
-Words text [] = Without dark text
-Words text (word ∷ words) = (rest : List ℕ) × First text word rest × Words rest words
+-- A text begins with these words, in their order, and goes on with a rest.
+abbrev pub Begins : List ℕ → List (List ℕ) → List ℕ → Type 0
+Begins text [] rest = text ≡ rest
+Begins text (word ∷ words) rest = (next : List ℕ) × First text word next × Begins next words rest
 
 -- A word writes a whole number of 64 bits: digits, perhaps after a sign.
 abbrev pub Writes : List ℕ → Type 0
 Writes word = Numeral 10 (afterSign word) × SFits w64 (signedValue 10 word)
 
--- Each word of the text writes a number, and these are the numbers.
+-- The text has these words and no more, each writes a number, and these are the numbers.
 pub record Line-of (text : List ℕ) (numbers : List ℤ) : Type 0 where
   pub words : List (List ℕ)
-  pub are : Words text words
+  pub rest : List ℕ
+  pub begins : Begins text words rest
+  pub ends : Without dark rest
   pub write : All Writes words
   pub values : numbers ≡ map (signedValue 10) words
 
@@ -42,12 +44,12 @@ pub record Blames (text : List ℕ) (place : ℕ) : Type 0 where
   pub earlier : List (List ℕ)
   pub word : List ℕ
   pub rest : List ℕ
-  pub begins : (words : List (List ℕ)) → Words rest words → Words text (earlier ++ (word ∷ words))
+  pub begins : Begins text (earlier ++ (word ∷ [])) rest
   pub write : All Writes earlier
   pub counted : place ≡ length earlier + 1
   pub wrong : Writes word → ⊥
 
--- What a fault says of the text.
+-- What a fault says of the text. Memory may be wanting for any text.
 abbrev pub Blamed : List ℕ → TextFault → Type 0
 Blamed text (Word place) = Blames text place
 Blamed text Memory = Unit {0}

@@ -1,4 +1,4 @@
-// Sample kinds, and the places of a grid that is stored row by row.
+// Sample kinds, and the places of a grid that is stored row by row. (Its specs also have what a chain of checks answers.)
 
 pub mod kinds;
 pub mod sample;

@@ -7,7 +7,7 @@ ghost use lib.ListN.{length};
 ghost use Rattle.grid.specs.Sample.{part-of, with-part, Fits32};
 
 pub trait Sample: Copy {
-    // How many parts each sample of the kind has, from 1 to 4.
+    // How many parts each sample of the kind has. Each `part_count` answers it; that it is 1 to 4 is said of `count`.
     const PARTS: usize;
 
     // The parts of a sample, and how many each sample of the kind has.

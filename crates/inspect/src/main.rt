@@ -48,9 +48,11 @@ fn print_load<K: Sample + Clone>(
     file: &PanelFile,
     blank: K,
 ) -> io::Result<()> {
-    let mut grid = vec![in rt.alloc(); blank; file.size.count()]?;
-    let loaded = fill(bytes, grid.as_mut_slice());
     print!(rt, "  {kind}: ")?;
+    let Ok(mut grid) = vec![in rt.alloc(); blank; file.size.count()] else {
+        return println!(rt, "no memory to try");
+    };
+    let loaded = fill(bytes, grid.as_mut_slice());
     match loaded {
         Ok(()) => println!(rt, "loads"),
         Err(FillFault::File(refusal)) => print_refusal(
@@ -73,7 +75,9 @@ fn print_file(rt: &LibcRuntime, bytes: &[u8]) -> io::Result<()> {
     let rows = file.size.rows;
     let columns = file.size.columns;
     let parts = file.parts;
-    let name = String::from_utf8_lossy(rt.alloc(), file.name)?;
+    let Ok(name) = String::from_utf8_lossy(rt.alloc(), file.name) else {
+        return println!(rt, "  no memory to show its name");
+    };
     println!(
         rt,
         "  rows {rows}, columns {columns}, parts {parts}, name \"{name}\""

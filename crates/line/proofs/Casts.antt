@@ -26,9 +26,6 @@ fits128 z h = record { sfits = omega (arith, mag-abs z) }
 pub same64 : (z : ℤ) → natAbs z < 2 ^ 63 → toZ w64 (ofZ w64 z) ≡ z
 same64 z h = toZ-ofZ w64 z (fits64 z h)
 
-pub difference-is : (a b : ℤ) → natAbs a ≤ 4000000000000 → natAbs b ≤ 4000000000000 → toZ w64 (ofZ w64 (toZ w64 (ofZ w64 a) -ℤ toZ w64 (ofZ w64 b))) ≡ a -ℤ b
-difference-is a b p q = omega (arith, ints)
-
 -- A pivot's part
 
 module _ (w b : ℤ) (third : 3 * natAbs w ≤ denominator) (small : natAbs b ≤ 2 ^ 62) where

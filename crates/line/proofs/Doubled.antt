@@ -7,7 +7,7 @@ use Rattle.std.proofs.shelf.Signed.{ints}
 use Rattle.line.specs.Line.{OnLine, clamped, sum-at}
 use Rattle.line.proofs.Linear.{Crosses, linear, at-crosses, add-crosses, scale-crosses}
 use Rattle.line.specs.Laws.{Dominant, Solvable}
-use Rattle.line.proofs.Rules.{solvable}
+use Rattle.line.proofs.Rules.{Six-fold, solvable}
 use Rattle.line.proofs.Shot.{shot, shot-row}
 
 -- over a grid its sums and any linear number of a line may change places
@@ -19,8 +19,10 @@ doubled n = record {
   adds = λ x y j. linear (doubled-crosses n j) .adds x y;
   scales = λ c x j. linear (doubled-crosses n j) .scales c x;
   leads = λ x j on top. omega (arith, ints, top (clamped n (j - 1)) (omega arith), top (clamped n (j + 1)) (omega arith));
-  within = λ x j g on all. omega (arith, ints, all (clamped n (j - 1)) (omega arith), all j on, all (clamped n (j + 1)) (omega arith));
 }
+
+pub doubled-six : (n : ℕ) → Six-fold n (sum-at n)
+doubled-six n x j g on all = omega (arith, ints, all (clamped n (j - 1)) (omega arith), all j on, all (clamped n (j + 1)) (omega arith))
 
 -- with equal first numbers, it has these sums at all places but the last
 doubled-row : (n : ℕ) (r : ℕ → ℤ) (u : ℤ) (j : ℕ) → OnLine n j → j < n → sum-at n (shot r u u) j ≡ r j

@@ -5,10 +5,10 @@ use lib.ListN.{length}
 use lib.IntN.{ℤ}
 use mathlib.Core.List.{List}
 use mathlib.Core.Path.{_≡_, ap}
-use Rattle.line.specs.Solver.{Sound, Finds-whole}
+use Rattle.line.specs.Solver.{Sound}
 use Rattle.line.specs.FixedPoint.{scale, nearest-line}
 use Rattle.line.specs.Elimination.{forwards, backs, elimination}
-use Rattle.line.proofs.Refined.{sound-rounded, whole-rounded}
+use Rattle.line.proofs.Refined.{Finds-whole, sound-rounded, whole-rounded}
 use Rattle.line.proofs.Sweeps.{length-forwards, finer, finer-near}
 
 rounds : (k : List ℤ) → backs (forwards k) ≡ nearest-line scale (length k) (finer k)

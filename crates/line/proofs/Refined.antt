@@ -10,11 +10,15 @@ use Rattle.std.proofs.shelf.Counted.{length-map-counting, getD-map-counting}
 use Rattle.std.proofs.shelf.Lists.{same-lists, getD-default}
 use Rattle.std.proofs.shelf.Signed.{ints}
 use Rattle.line.specs.Line.{OnLine, place, sum-at}
-use Rattle.line.specs.Solver.{Solver, Admitted, Sound, Finds-whole}
+use Rattle.line.specs.Solver.{Solver, Admitted, Sound, Whole-solution}
 use Rattle.line.specs.FixedPoint.{nearest, nearest-line}
-use Rattle.line.proofs.Doubled.{doubled}
+use Rattle.line.proofs.Doubled.{doubled, doubled-six}
 use Rattle.line.proofs.Fractions.{nearest-half}
 use Rattle.line.proofs.Rounding.{residual-rounded, exactly}
+
+-- On every admitted line the rule gives a whole solution where there is one.
+abbrev pub Finds-whole : Solver → Type 0
+Finds-whole s = (k : List ℤ) → Admitted k → (z : List ℤ) → Whole-solution k z → s .rule k ≡ z
 
 level : (a b : ℤ) → a -ℤ b ≡ pos 0 → a ≡ b
 level a b e = omega (arith, ints)
@@ -45,7 +49,7 @@ module _ (s : Solver) (m ρ : ℕ) (below : ρ < m) (finer : List ℤ → ℕ �
     near = λ k ok j on.
         omega (
           arith,
-          residual-rounded (doubled (length k)) (place (s .rule k)) (finer k) (place k) m (rounded k) 1 (omega arith) j on
+          residual-rounded (doubled (length k)) (doubled-six (length k)) (place (s .rule k)) (finer k) (place k) m (rounded k) 1 (omega arith) j on
               (omega (arith, close k ok j on)),
         );
   }
@@ -54,5 +58,5 @@ module _ (s : Solver) (m ρ : ℕ) (below : ρ < m) (finer : List ℤ → ℕ �
   whole-rounded k ok z exact =
       same-places (s .rule k) z (omega (arith, long k, exact .long))
       (λ j on.
-      exactly (doubled (length k)) (place (s .rule k)) (finer k) (place k) m (rounded k) (place z)
+      exactly (doubled (length k)) (doubled-six (length k)) (place (s .rule k)) (finer k) (place k) m (rounded k) (place z)
       (λ i at. level (sum-at (length k) (place z) i) (pos 6 *ℤ place k i) (exact .meets i at)) ρ below (close k ok) j (omega (arith, long k)))

@@ -8,13 +8,13 @@ use Rattle.line.specs.Line.{OnLine, Sums}
 use Rattle.line.proofs.Products.{together, abs-*, abs-scaled, cancel-<}
 use Rattle.line.proofs.Linear.{subtracts}
 use Rattle.line.specs.Laws.{Dominant}
-use Rattle.line.proofs.Rules.{along, near}
+use Rattle.line.proofs.Rules.{Six-fold, along, near}
 
-module _ {n : ℕ} {sums : Sums} (rule : Dominant n sums) (x X k : ℕ → ℤ) (m : ℕ) (rounded : (i : ℕ) → OnLine n i → 2 * natAbs (pos m *ℤ x i -ℤ X i) ≤ m) where
+module _ {n : ℕ} {sums : Sums} (rule : Dominant n sums) (six : Six-fold n sums) (x X k : ℕ → ℤ) (m : ℕ) (rounded : (i : ℕ) → OnLine n i → 2 * natAbs (pos m *ℤ x i -ℤ X i) ≤ m) where
   -- rounding moves a sum by at most 3 units
   sums-rounded : (j : ℕ) → OnLine n j → natAbs (pos m *ℤ sums x j -ℤ sums X j) ≤ 3 * m
   sums-rounded j on =
-      let twice = rule .within (λ i. pos 2 *ℤ (pos m *ℤ x i -ℤ X i)) j m on (λ i at. omega (arith, abs-* (pos 2) (pos m *ℤ x i -ℤ X i), rounded i at)) in
+      let twice = six (λ i. pos 2 *ℤ (pos m *ℤ x i -ℤ X i)) j m on (λ i at. omega (arith, abs-* (pos 2) (pos m *ℤ x i -ℤ X i), rounded i at)) in
       omega (arith, ints, along rule j .scales (pos 2) (λ i. pos m *ℤ x i -ℤ X i), subtracts (along rule j) (λ i. pos m *ℤ x i) X, along rule j .scales (pos m) x)
 
   -- residuals below c units in the finer line are below c + 3 in the rounded one

@@ -32,6 +32,10 @@ unfolding sign
 sign-abs (pos n) = omega (arith, ints)
 sign-abs (negsuc n) = omega (arith, ints)
 
+-- All weights of a row come to at most 6: a sum is at most six times as great as the line.
+abbrev pub Six-fold : ℕ → Sums → Type 0
+Six-fold n sums = (x : ℕ → ℤ) (j g : ℕ) → OnLine n j → ((i : ℕ) → OnLine n i → natAbs (x i) ≤ g) → natAbs (sums x j) ≤ 6 * g
+
 module _ {n : ℕ} {sums : Sums} (rule : Dominant n sums) where
   pub along : (j : ℕ) → Linear (λ x. sums x j)
   along j = record { adds = λ x y. rule .adds x y j; scales = λ c x. rule .scales c x j }

@@ -8,14 +8,12 @@ use Rattle.line.specs.Line.{OnLine, Sums, missed, place, sum-at, Within}
 use Rattle.line.specs.Solver.{Solver, Sound, Admitted}
 
 -- What a rule of ends shows to have the laws, row by row. Its sums are linear in the line. The weight on a place itself exceeds
--- those on all others together by at least 2: where a line is greatest, the sum is at least twice as great. And all weights
--- of a row come to at most 6: a sum is at most six times as great as the line.
+-- those on all others together by at least 2: where a line is greatest, the sum is at least twice as great.
 pub record Dominant (n : ℕ) (sums : Sums) : Type 0 where
   pub adds : (x y : ℕ → ℤ) (j : ℕ) → sums (λ i. x i +ℤ y i) j ≡ sums x j +ℤ sums y j
   pub scales : (c : ℤ) (x : ℕ → ℤ) (j : ℕ) → sums (λ i. c *ℤ x i) j ≡ c *ℤ sums x j
   pub leads : (x : ℕ → ℤ) (j : ℕ) → OnLine n j → ((i : ℕ) → OnLine n i → natAbs (x i) ≤ natAbs (x j)) →
       2 * natAbs (x j) ≤ natAbs (sums x j)
-  pub within : (x : ℕ → ℤ) (j g : ℕ) → OnLine n j → ((i : ℕ) → OnLine n i → natAbs (x i) ≤ g) → natAbs (sums x j) ≤ 6 * g
 
 -- Every residual of x for k lies between -g and g.
 abbrev pub Residuals : ℕ → Sums → (ℕ → ℤ) → (ℕ → ℤ) → ℕ → Type 0

@@ -32,7 +32,3 @@ pub record Sound (s : Solver) : Type 0 where
 pub record Whole-solution (k z : List ℤ) : Type 0 where
   pub long : length z ≡ length k
   pub meets : (j : ℕ) → OnLine (length k) j → residual z k j ≡ pos 0
-
--- On every admitted line the rule gives a whole solution where there is one.
-abbrev pub Finds-whole : Solver → Type 0
-Finds-whole s = (k : List ℤ) → Admitted k → (z : List ℤ) → Whole-solution k z → s .rule k ≡ z

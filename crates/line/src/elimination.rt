@@ -41,12 +41,20 @@ fn forward_step(w: i64, k: i64, g: i64) -> i64
     part_of(w, right_side(k, g))
 }
 
+// What is left of g once its neighbour's part is taken away.
+fn left_over(g: i64, part: i64) -> i64
+    requires { ⌜ natAbs g ≤ forward-limit ⌝ ∗ ⌜ natAbs part ≤ back-limit ⌝ }
+    ensures { λ r. ⌜ r ≡ g -ℤ part ⌝ }
+{
+    g - part
+}
+
 // x j, from the pivot w j, g j and x (j + 1).
 fn back_step(w: i64, g: i64, x: i64) -> i64
     requires { ⌜ 3 * natAbs w ≤ denominator ⌝ ∗ ⌜ natAbs g ≤ forward-limit ⌝ ∗ ⌜ natAbs x ≤ back-limit ⌝ }
     ensures { λ r. ⌜ r ≡ g -ℤ fraction w x ⌝ }
 {
-    g - part_of(w, x)
+    left_over(g, part_of(w, x))
 }
 
 // Leaves the numbers g in the output line.

@@ -1,4 +1,4 @@
-// The steps in fixed point that solvers share.
+// The steps in fixed point, 2^16 finer units to one and fractions over 2^60. (Their lemmas are over any scale.)
 ghost use mathlib.Core.Path.{_≡_};
 ghost use Prim.Native.Nat.{_*_, _^_, _≤_};
 ghost use lib.IntN.{pos, natAbs, _+ℤ_};

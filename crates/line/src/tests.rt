@@ -2,6 +2,7 @@
 ghost use Prim.Native.Nat.{_≤_};
 use crate::elimination::Elimination;
 use crate::elimination::EliminationSolver;
+use crate::residual::residual_at;
 use crate::solver::LineSolver;
 use crate::solver::SolveFault;
 use crate::solver::SolveFaultPartialEq;
@@ -75,4 +76,16 @@ fn limits() -> Result<(), Fail> {
     refused(&[5_000_001, 0, 0], SolveFault::Beyond(1), 3)?;
     refused(&[0, 0, -5_000_001], SolveFault::Beyond(3), 3)?;
     refused(&[0, -5_000_001, 5_000_001], SolveFault::Beyond(2), 3)
+}
+
+#[test]
+fn residuals() -> Result<(), Fail> {
+    check(residual_at(&[1, 4], &[1, 3], 1) == Some(3))?;
+    check(residual_at(&[1, 4], &[1, 3], 2) == Some(3))?;
+    check(residual_at(&[1, 4], &[1, 3], 0) == None)?;
+    check(residual_at(&[1, 4], &[1, 3], 3) == None)?;
+    check(residual_at(&[1, 4], &[1, 3, 5], 1) == None)?;
+    let high = i64::MAX;
+    let low = i64::MIN;
+    check(residual_at(&[high, high], &[low, low], 1) == Some(110_680_464_442_257_309_690))
 }

@@ -7,7 +7,7 @@ use lib.ListN.{length, take}
 use mathlib.Core.Bool.{Bool}
 use mathlib.Core.List.{List}
 use mathlib.Core.Logic.{_⊎_, inl, inr}
-use mathlib.Core.Path.{_≡_, refl, sym, ap, ap₂, _∙_}
+use mathlib.Core.Path.{_≡_, refl, sym, ap, ap₂, subst, _∙_}
 use Rattle.std.proofs.shelf.Lists.{getD-take, length-take-le, take-all}
 use Rattle.std.proofs.shelf.Tests.{cases-lt, le-leb, leb-true, ne-eqb}
 use Rattle.std.specs.declared.result.Result.{Result}
@@ -18,11 +18,13 @@ use Rattle.grid.proofs.Chains.{both-good}
 use Rattle.panel_file.specs.declared.refusal.FileFault.{FileFault}
 use Rattle.panel_file.specs.declared.refusal.FileFault.the-variants.{WrongCount, WrongParts, WrongSize, PartBeyond, BytesLeftOver, WrongNameByte, EndsEarly}
 use Rattle.panel_file.specs.declared.refusal.FileRefusal.{FileRefusal}
+use Rattle.panel_file.specs.declared.refusal.FillFault.the-variants.{File, GridLength}
 use Rattle.panel_file.specs.declared.refusal.Section.{Section}
 use Rattle.panel_file.specs.declared.refusal.Section.the-variants.{Sizes, Samples, Name}
 use Rattle.panel_file.specs.Field.{Answer, refused, byte-at, count-at, part-at, signed, field, fields}
 use Rattle.panel_file.specs.Layout.{size-fits, parts-fit, part-fits, printable, sizes-answer, size-of, parts-of, samples-answer, samples-end, name-from, name-answer}
 use Rattle.panel_file.specs.Open.{open-answer, summary, open-result}
+use Rattle.panel_file.specs.Fill.{FillAnswer, of-file, fill-answer}
 use Rattle.panel_file.specs.Laws.{Enough}
 use Rattle.panel_file.proofs.Accepted.{accepted, sized, one-or-three}
 use Rattle.panel_file.proofs.Fields.{field-says}
@@ -147,13 +149,34 @@ module _ (file : List ℕ) (long : 49202 < length file) where
       let s : Small = record { rows = a .rows-fit .1; columns = a .columns-fit .1; parts = at-most-three (byte-at file 4) (a .parts-fit) } in
       omega (arith, ends-low s, a .ended, a .name-short)
 
-  longer-alike : open-result front ≡ open-result file
-  longer-alike =
+  longer-opens : open-result front ≡ open-result file
+  longer-opens =
       ap (λ a. then a (Ok (summary front))) front-alike ∙ then-alike (open-answer file) (λ h. absurd (not-good h))
 
-pub enough : Enough 49202
-enough file = go (cases-lt 49202 (length file))
+  longer-fills : (parts room : ℕ) → fill-answer parts front room ≡ fill-answer parts file room
+  longer-fills parts room = ap (λ a. then (of-file a) (rest front)) front-alike ∙ stopped (open-answer file) not-good
+    where
+      -- the two checks of the grid
+      rest : List ℕ → FillAnswer
+      rest bytes =
+          then (check (eqb (parts-of bytes) parts) (File (refused WrongParts Sizes 4)))
+          (check (eqb room (size-of bytes .rows * size-of bytes .columns)) GridLength)
+
+      stopped : (a : Answer) → (a ≡ Ok tt → ⊥) → then (of-file a) (rest front) ≡ then (of-file a) (rest file)
+      stopped (Ok _) h = absurd (h refl)
+      stopped (Err e) h = refl
+
+-- A file that is no longer is its own beginning.
+by-length : (P : List ℕ → List ℕ → Type 0) (file : List ℕ) → (49202 < length file → P (take 49202 file) file) → P file file → P (take 49202 file) file
+by-length P file longer same = go (cases-lt 49202 (length file))
   where
-    go : (49202 < length file) ⊎ (length file ≤ 49202) → open-result (take 49202 file) ≡ open-result file
-    go (inl long) = longer-alike file long
-    go (inr short) = ap open-result (take-all 49202 file short)
+    go : (49202 < length file) ⊎ (length file ≤ 49202) → P (take 49202 file) file
+    go (inl long) = longer long
+    go (inr short) = subst (λ bytes. P bytes file) (sym (take-all 49202 file short)) same
+
+pub enough : Enough 49202
+enough = record {
+  opens = λ file. by-length (λ a b. open-result a ≡ open-result b) file (longer-opens file) refl;
+  fills = λ file parts room. by-length (λ a b. fill-answer parts a room ≡ fill-answer parts b room) file (λ long. longer-fills file long parts room) refl;
+  whole = λ file good. by-length (λ a b. a ≡ b) file (λ long. absurd (not-good file long good)) refl;
+}

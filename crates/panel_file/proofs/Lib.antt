@@ -1,3 +1,4 @@
+-- Lemmas about the fields of a file and about what a file encodes.
 pub mod Fields
 pub mod Sections
 pub mod Blocks

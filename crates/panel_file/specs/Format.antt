@@ -40,13 +40,15 @@ unsigned (negsuc n) = 4294967295 - n
 abbrev pub part-bytes : ℤ → List ℕ
 part-bytes v = unsigned v % 256 ∷ unsigned v / 256 % 256 ∷ unsigned v / 65536 % 256 ∷ unsigned v / 16777216 % 256 ∷ []
 
--- The sections.
+-- Section 1: how many rows, columns and parts.
 abbrev pub sizes-bytes : Contents → List ℕ
 sizes-bytes c = count-bytes 3 ++ (c .rows ∷ c .columns ∷ c .parts ∷ [])
 
+-- Section 2: the samples row by row, part by part.
 abbrev pub samples-bytes : Contents → List ℕ
 samples-bytes c = count-bytes (c .rows * c .columns) ++ joined (joined part-bytes) (c .samples)
 
+-- Section 3: the name.
 abbrev pub name-bytes : Contents → List ℕ
 name-bytes c = count-bytes (length (c .name)) ++ c .name
 

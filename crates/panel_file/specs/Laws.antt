@@ -6,10 +6,12 @@ use mathlib.Core.List.{List}
 use mathlib.Core.Path.{_≡_}
 use Rattle.std.specs.Results.{Cases}
 use Rattle.std.specs.declared.result.Result.{Result}
+use Rattle.std.specs.declared.result.Result.the-variants.{Ok}
 use Rattle.panel_file.specs.declared.refusal.FileRefusal.{FileRefusal}
 use Rattle.panel_file.specs.declared.refusal.FillFault.{FillFault}
 use Rattle.panel_file.specs.Format.{Contents, Valid, Holds, encode}
-use Rattle.panel_file.specs.Open.{Summary, open-result}
+use Rattle.panel_file.specs.Open.{Summary, open-answer, open-result}
+use Rattle.panel_file.specs.Fill.{fill-answer}
 
 -- What an opened file says of its contents.
 abbrev pub summed-up : Contents → Summary
@@ -30,6 +32,9 @@ Fills-exactly parts file r grid =
     Cases r (λ _. (c : Contents) × Holds file c × (c .parts ≡ parts) × (grid ≡ c .samples))
     (λ _. (c : Contents) → Holds file c → c .parts ≡ parts → length (c .samples) ≡ length grid → ⊥)
 
--- So many bytes of a file are enough: what stands after them changes no answer.
-abbrev pub Enough : ℕ → Type 0
-Enough n = (file : List ℕ) → open-result (take n file) ≡ open-result file
+-- So many bytes of a file are enough: what stands after them changes no answer of `open` or `fill`, and nothing stands after them in
+-- a file that opens.
+pub record Enough (n : ℕ) : Type 0 where
+  pub opens : (file : List ℕ) → open-result (take n file) ≡ open-result file
+  pub fills : (file : List ℕ) (parts room : ℕ) → fill-answer parts (take n file) room ≡ fill-answer parts file room
+  pub whole : (file : List ℕ) → open-answer file ≡ Ok tt → take n file ≡ file

@@ -33,10 +33,10 @@ printable b = leb 32 b && leb b 126
 -- Section 1, and what its fields say.
 abbrev pub sizes-answer : List ℕ → Answer
 sizes-answer file =
-    then (field file Sizes WrongCount 2 (λ at. eqb (count-at file at) 3) 0)
-    (then (field file Sizes WrongSize 1 (λ at. size-fits (byte-at file at)) 2)
-    (then (field file Sizes WrongSize 1 (λ at. size-fits (byte-at file at)) 3)
-    (field file Sizes WrongParts 1 (λ at. parts-fit (byte-at file at)) 4)))
+    then (field file Sizes WrongCount 2 (λ here. eqb (count-at file here) 3) 0)
+    (then (field file Sizes WrongSize 1 (λ here. size-fits (byte-at file here)) 2)
+    (then (field file Sizes WrongSize 1 (λ here. size-fits (byte-at file here)) 3)
+    (field file Sizes WrongParts 1 (λ here. parts-fit (byte-at file here)) 4)))
 
 -- Rows and columns.
 abbrev pub size-of : List ℕ → GridSize
@@ -48,12 +48,12 @@ parts-of file = byte-at file 4
 
 -- So many parts from an offset on.
 abbrev pub parts-from : List ℕ → ℕ → ℕ → Answer
-parts-from file count at = fields file Samples PartBeyond 4 (λ at. part-fits (part-at file at)) count at
+parts-from file count at = fields file Samples PartBeyond 4 (λ here. part-fits (part-at file here)) count at
 
 -- Section 2.
 abbrev pub samples-answer : List ℕ → GridSize → ℕ → Answer
 samples-answer file size parts =
-    then (field file Samples WrongCount 2 (λ at. eqb (count-at file at) (size .rows * size .columns)) 5)
+    then (field file Samples WrongCount 2 (λ here. eqb (count-at file here) (size .rows * size .columns)) 5)
     (parts-from file (size .rows * size .columns * parts) 7)
 
 -- The offset at which section 2 ends.
@@ -62,12 +62,12 @@ samples-end size parts = 7 + size .rows * size .columns * parts * 4
 
 -- So many bytes of a name from an offset on.
 abbrev pub name-from : List ℕ → ℕ → ℕ → Answer
-name-from file count at = fields file Name WrongNameByte 1 (λ at. printable (byte-at file at)) count at
+name-from file count at = fields file Name WrongNameByte 1 (λ here. printable (byte-at file here)) count at
 
 -- Section 3, whose count stands at an offset; nothing may follow it.
 abbrev pub name-answer : List ℕ → ℕ → Answer
 name-answer file at =
-    then (field file Name WrongCount 2 (λ at. leb (count-at file at) 40) at)
+    then (field file Name WrongCount 2 (λ here. leb (count-at file here) 40) at)
     (then (name-from file (count-at file at) (at + 2))
     (check (eqb (length file) (at + 2 + count-at file at)) (refused BytesLeftOver Name (at + 2 + count-at file at))))
 

@@ -124,7 +124,7 @@ fn every_beginning_ends_early() -> Result<(), Fail> {
 #[test]
 fn wrong_bytes_are_named() -> Result<(), Fail> {
     // (offset, byte, number, section, offset of the field)
-    let table: [(usize, u8, u8, u8, usize); 22] = [
+    let table: [(usize, u8, u8, u8, usize); 23] = [
         (0, 2, 12, 1, 0),
         (1, 1, 12, 1, 0),
         (2, 1, 14, 1, 2),
@@ -133,6 +133,7 @@ fn wrong_bytes_are_named() -> Result<(), Fail> {
         (3, 65, 14, 1, 3),
         (4, 0, 13, 1, 4),
         (4, 2, 13, 1, 4),
+        (4, 4, 13, 1, 4),
         (4, 17, 13, 1, 4),
         (5, 3, 12, 2, 5),
         (6, 1, 12, 2, 5),
@@ -184,6 +185,15 @@ fn bytes_left_over() -> Result<(), Fail> {
     check_eq(verdict(&file[0..27]), (16, 3, 26))
 }
 
+// That a field is not whole is said before what its bytes say.
+#[test]
+fn ends_early_before_all_else() -> Result<(), Fail> {
+    check_eq(verdict(&[]), (11, 1, 0))?;
+    check_eq(verdict(&[4]), (11, 1, 0))?;
+    check_eq(verdict(&[3, 0, 2, 2, 1, 9]), (11, 2, 5))?;
+    check_eq(verdict(&[3, 0, 2, 2, 1, 4, 0, 255, 255, 255]), (11, 2, 7))
+}
+
 // A file of two by two heights with a name of so many letters.
 fn with_name(count: u8, last: u8) -> (u8, u8, usize) {
     let mut file = [97; 66];
@@ -229,6 +239,21 @@ fn a_refusal_leaves_the_grid() -> Result<(), Fail> {
     };
     check_eq(early.fault, FileFault::EndsEarly)?;
     check_eq(cut, [Height(9); 4])
+}
+
+// The file is checked before the grid's kind and length, a part of a point at its last field too.
+#[test]
+fn the_file_comes_first() -> Result<(), Fail> {
+    let mut file = POINTS;
+    file[54] = 0;
+    check_eq(verdict(&file), (15, 2, 51))?;
+    let mut grid = [Height(9); 3];
+    let Err(FillFault::File(refusal)) = fill(&file, &mut grid) else {
+        return Err(Fail::new("filled from a part beyond the limit"));
+    };
+    check_eq(refusal.fault, FileFault::PartBeyond)?;
+    check_eq(refusal.offset, 51)?;
+    check_eq(grid, [Height(9); 3])
 }
 
 // The grid's kind is checked before its length.

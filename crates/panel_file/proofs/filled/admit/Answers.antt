@@ -1,3 +1,4 @@
+-- A file that is refused refuses the grid.
 use mathlib.Core.Path.{sym, ap, _∙_}
 use Rattle.grid.proofs.Chains.{exit, refused-by, stop}
 use Rattle.panel_file.specs.Open.{open-answer}

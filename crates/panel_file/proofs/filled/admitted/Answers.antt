@@ -1,3 +1,4 @@
+-- An admitted file has all samples of the grid.
 use Rattle.panel_file.proofs.Exactly.{enough-by}
 use Rattle.panel_file.proofs.filled.admitted.Needs as need
 

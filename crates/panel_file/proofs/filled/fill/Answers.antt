@@ -1,3 +1,4 @@
+-- The answer and the grid are the defined ones, and so exact.
 use lib.ListN.{length}
 use Rattle.std.proofs.shelf.Lists.{length-map}
 use Rattle.panel_file.proofs.Exactly.{fills}

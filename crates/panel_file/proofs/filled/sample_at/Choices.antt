@@ -1,3 +1,4 @@
+-- What the loop over the parts of a sample keeps.
 use Prim.Native.Nat.{ℕ, _+_, _*_, _<_}
 use lib.IntN.{pos}
 use lib.ListN.{getD}

@@ -1,3 +1,4 @@
+-- What the loop over the samples keeps.
 use Prim.Native.Nat.{ℕ, _+_, _*_, _<_}
 use lib.ListN.{getD}
 use mathlib.Core.List.{[], map}

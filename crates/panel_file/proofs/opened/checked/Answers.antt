@@ -1,3 +1,4 @@
+-- The three sections one after the other: where the walk stops, or that all were passed.
 use borrow.Author.Needs.{needs}
 use mathlib.Core.Path.{_∙_}
 use Rattle.std.proofs.shelf.Results.{made-from-err}

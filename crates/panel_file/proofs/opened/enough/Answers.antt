@@ -1,3 +1,4 @@
+-- One byte more than the longest file is enough.
 use Prim.Native.Nat.{_+_}
 use native.Mathlib.Omega.{arith}
 use mathlib.Core.Path.{_≡_, subst, sym}

@@ -1,3 +1,4 @@
+-- The answer is the defined one, and so exact.
 use mathlib.Core.Path.{_≡_, ap, sym, _∙_}
 use Rattle.std.specs.declared.result.Result.the-variants.{Ok}
 use Rattle.grid.proofs.Chains.{exit, refused-by, stop}

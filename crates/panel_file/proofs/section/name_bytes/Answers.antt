@@ -1,3 +1,4 @@
+-- One byte of the name more, or the first that is refused.
 use Prim.Native.Nat.{_+_}
 use native.Mathlib.Omega.{arith}
 use mathlib.Core.Path.{sym, _∙_}

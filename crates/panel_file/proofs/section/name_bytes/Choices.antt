@@ -1,3 +1,4 @@
+-- What the loop over the bytes of a name keeps.
 use Prim.Native.Nat.{_+_, _-_}
 use mathlib.Core.Path.{_≡_}
 use Rattle.panel_file.specs.Layout.{name-from}

@@ -1,3 +1,4 @@
+-- What the loop over the parts keeps.
 use Prim.Native.Nat.{_+_, _-_, _*_}
 use mathlib.Core.Path.{_≡_}
 use Rattle.panel_file.specs.Layout.{parts-from}

@@ -1,3 +1,4 @@
+-- No count of numbers is too great for its type.
 use borrow.Author.Needs.{needs}
 use native.Mathlib.Omega.{arith}
 use native.Mathlib.Nat.{mul-le-mul}

@@ -1,3 +1,4 @@
+-- A place that the grid has leads to an index, and back.
 use mathlib.Core.Path.{ap, sym, _∙_}
 use Rattle.std.specs.declared.option.Option.the-variants.{Some}
 use Rattle.grid.specs.Place.{place-on}

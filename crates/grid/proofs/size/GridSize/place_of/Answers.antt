@@ -1,3 +1,4 @@
+-- An index that the grid has leads to a place, and back.
 use Prim.Native.Nat.{_*_, _<_}
 use native.Mathlib.Omega.{arith}
 use mathlib.Core.Path.{ap, sym, _∙_}
