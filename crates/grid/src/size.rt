@@ -6,12 +6,14 @@ ghost use Rattle.grid.specs.Place.{index, on-grid, index-on, place-at, place-o
 ghost use Rattle.std.specs.Options.{Cases};
 ghost use Rattle.std.specs.declared.option.Option.the-variants.{Some, None};
 
+// How many rows and columns a grid has.
 #[derive(Clone, Copy, PartialEq, Eq, Debug)]
 pub struct GridSize {
     pub rows: u8,
     pub columns: u8,
 }
 
+// A row and a column, each counted from 1.
 #[derive(Clone, Copy, PartialEq, Eq, Debug)]
 pub struct Place {
     pub row: usize,
@@ -26,6 +28,7 @@ impl GridSize {
         self.rows as usize * self.columns as usize
     }
 
+    // Whether the grid has the place.
     fn has(self, place: Place) -> bool
         ensures { λ r. ⌜ r ≡ on-grid self place ⌝ }
     {

@@ -35,10 +35,6 @@ module _ (file : List ℕ) (section : Section) (fault : FileFault) (width : ℕ)
       sym (one-more n k at h ∙ ap (λ a. then a (fields file section fault width holds (n - (k + 1)) (at + width))) failed)
       ∙ left
 
-  -- no field is left
-  pub fields-all : (n at : ℕ) (whole : Answer) → fields file section fault width holds (n - n) at ≡ whole → Ok tt ≡ whole
-  fields-all n at whole left = let e : n - n ≡ 0 = omega arith in rw e at left
-
   -- A good field lies within the file and passes its test.
   abbrev pub Good : ℕ → Type 0
   Good at = (at + width ≤ length file) × (holds at ≡ true)
