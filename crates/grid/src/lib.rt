@@ -1,4 +1,5 @@
 // Sample kinds, and the places of a grid that is stored row by row. (Its specs also have what a chain of checks answers.)
+#![tactic(auto)]
 
 pub mod kinds;
 pub mod sample;
