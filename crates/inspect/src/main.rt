@@ -1,4 +1,6 @@
 // inspect: says what each panel file holds, and which controllers load it or why they do not.
+#![tactic(auto)]
+
 use grid::kinds::{Height, Point};
 use grid::sample::Sample;
 use panel_file::{FileFault, FileRefusal, FillFault, PanelFile, enough, fill, open};

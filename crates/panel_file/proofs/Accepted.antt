@@ -1,11 +1,11 @@
 -- What the checks of an accepted file say, and that they are all there is to say.
-use Rattle.std.proofs.Common.{◌≡◌, ℕ, ◌+◌, ◌*◌, ◌<◌, ◌≤◌, true, ◌&&◌, ◌||◌, eqb, leb, ◌⊎◌, List, length, nat_abs, Ok, Err, sym, ap, ◌∙◌, inl, inr, arith}
+use Rattle.std.proofs.Common.{◌≡◌, ℕ, ◌+◌, ◌*◌, ◌<◌, ◌≤◌, true, eqb, leb, ◌⊎◌, List, length, nat_abs, Ok, ◌∙◌, inl, inr, arith}
 use Rattle.std.proofs.lemmas.Bool.{leb-true, le-leb, eqb-true, eq-eqb, and_parts, and_from, or_cases, or_left, or_right}
 use Rattle.grid.specs.Checks.{check, then}
 use Rattle.grid.proofs.Chains.{held, holds_good, both_good, over}
 use Rattle.panel_file.specs.declared.refusal.FileFault.TheVariants.{WrongCount, WrongParts, WrongSize, PartBeyond, BytesLeftOver, WrongNameByte}
 use Rattle.panel_file.specs.declared.refusal.Section.TheVariants.{Sizes, Samples, Name}
-use Rattle.panel_file.specs.Field.{Answer, refused, byte_at, count_at, part_at, field}
+use Rattle.panel_file.specs.Field.{refused, byte_at, count_at, part_at, field}
 use Rattle.panel_file.specs.Layout.{size_fits, parts_fit, part_fits, printable, sizes_answer, size_of, parts_of, parts_from, samples_answer, samples_end, name_from, name_answer}
 use Rattle.panel_file.specs.Open.{open_answer}
 use Rattle.panel_file.proofs.Fields.{field_says, field_good, fields_say, fields_good}

@@ -1,15 +1,15 @@
 -- An accepted file is the encoding of what is read from it.
-use Rattle.std.proofs.Common.{◌≡◌, ℕ, zero, suc, ◌+◌, ◌-◌, ◌*◌, ◌/◌, ◌%◌, ◌<◌, ◌≤◌, List, [], ◌∷◌, ◌++◌, map, length, get_or, take, drop, ℤ, pos, nat_abs, sym, ap, ◌∙◌, subst, ap₂, zero-add, arith}
+use Rattle.std.proofs.Common.{◌≡◌, ℕ, ◌+◌, ◌*◌, ◌<◌, ◌≤◌, List, [], ◌∷◌, ◌++◌, length, get_or, take, drop, nat_abs, sym, ap, ◌∙◌, subst, ap₂, zero-add, arith}
 use Rattle.std.specs.List.{range_with_len, flat_map, AllByRecursion as All}
 use Rattle.std.proofs.lemmas.Nat.{mul-add-lt}
 use Rattle.std.proofs.lemmas.List.FromFn.{length-range_with_len, get_or-range_with_len, length-map-range_with_len}
 use Rattle.std.proofs.ByRecursion.{All-from_get_or, All-map}
 use Rattle.std.proofs.lemmas.List.{drop_more, drop-drop, take-append-drop, length-drop, get_or-drop}
 use Rattle.panel_file.specs.Field.{byte_at, count_at, part_at}
-use Rattle.panel_file.specs.Layout.{size_of, parts_of, name_at}
+use Rattle.panel_file.specs.Layout.{name_at}
 use Rattle.panel_file.specs.Format.{Contents, Valid, count_bytes, part_bytes, encode}
 use Rattle.panel_file.specs.Fill.{parts_at, samples_of}
-use Rattle.panel_file.proofs.Accepted.{Accepted, numbers, name_count_at}
+use Rattle.panel_file.proofs.Accepted.{Accepted, name_count_at}
 use Rattle.panel_file.proofs.Blocks.{blocks_join}
 use Rattle.panel_file.proofs.Numbers.{count_again, part_again}
 

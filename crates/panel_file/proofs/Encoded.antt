@@ -1,14 +1,14 @@
 -- The encoding of contents within the limits is accepted, and just these contents are read from it.
-use Rattle.std.proofs.Common.{◌≡◌, ℕ, ◌+◌, ◌*◌, ◌/◌, ◌%◌, ◌<◌, ◌≤◌, List, [], ◌∷◌, ◌++◌, map, length, get_or, take, drop, ℤ, pos, nat_abs, sym, refl, ap, ◌∙◌, ap₂, arith}
-use Rattle.std.specs.List.{range_with_len, flat_map, AllByRecursion as All}
+use Rattle.std.proofs.Common.{◌≡◌, ℕ, ◌+◌, ◌*◌, ◌<◌, ◌≤◌, List, [], ◌∷◌, ◌++◌, length, get_or, take, drop, ℤ, pos, nat_abs, sym, refl, ap, ◌∙◌, ap₂, arith}
+use Rattle.std.specs.List.{flat_map, AllByRecursion as All}
 use Rattle.std.proofs.lemmas.Nat.{mul-add-lt}
 use Rattle.std.proofs.lemmas.List.FromFn.{length-map-range_with_len, get_or-map-range_with_len}
-use Rattle.std.proofs.ByRecursion.{All-get_or, All-append, All-weaker}
+use Rattle.std.proofs.ByRecursion.{All-get_or, All-append}
 use Rattle.std.proofs.lemmas.List.{append-nil, drop-drop, drop_at, length-append, get_or-drop, get_or-take, ext_get_or}
 use Rattle.panel_file.specs.Field.{byte_at, count_at, part_at, signed}
 use Rattle.panel_file.specs.Format.{Contents, Valid, count_bytes, part_bytes, encode}
 use Rattle.panel_file.specs.Fill.{parts_at, samples_of}
-use Rattle.panel_file.proofs.Accepted.{Accepted, numbers, name_count_at}
+use Rattle.panel_file.proofs.Accepted.{Accepted}
 use Rattle.panel_file.proofs.Blocks.{block_at, length_joined, joined_joined}
 use Rattle.panel_file.proofs.Decoded.{decode}
 use Rattle.panel_file.proofs.Numbers.{count_back, word, part_back}

@@ -1,5 +1,5 @@
 -- Samples and grids that are written place by place.
-use Rattle.std.proofs.Common.{◌≡◌, ℕ, ◌+◌, ◌*◌, ◌<◌, List, [], map, length, get_or, set, ℤ, pos, sym, refl, ap, ◌∙◌, add-one, arith, w32, SFits, to_z, of_z}
+use Rattle.std.proofs.Common.{◌≡◌, ℕ, ◌+◌, ◌<◌, List, [], map, length, get_or, set, ℤ, pos, refl, ap, ◌∙◌, add-one, arith, w32, SFits, to_z, of_z}
 use Rattle.std.proofs.lemmas.List.Edits.{fill_by_more}
 use Rattle.std.proofs.lemmas.List.{length-map, map-set}
 use Rattle.std.proofs.lemmas.Int.{to_z-of_z}

@@ -1,6 +1,6 @@
 -- The fields of a panel file: where they stand, what they say, and which are refused.
 -- An offset counts bytes from 0 at the start of the file; numbers of several bytes have the low byte first.
-use Rattle.std.specs.Prelude.{ℕ, zero, suc, ◌+◌, ◌-◌, ◌*◌, Bool, cond, List, length, ℤ, pos, negsuc, Ok, Err, Result, nat_le, nat_lt, slice_index}
+use Rattle.std.specs.Prelude.{ℕ, zero, suc, ◌+◌, ◌-◌, ◌*◌, Bool, cond, List, length, ℤ, pos, negsuc, Ok, Result, nat_le, nat_lt, slice_index}
 use Rattle.grid.specs.Checks.{check, then}
 use Rattle.panel_file.specs.declared.refusal.FileFault.{FileFault}
 use Rattle.panel_file.specs.declared.refusal.FileFault.TheVariants.{EndsEarly}

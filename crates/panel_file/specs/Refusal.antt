@@ -2,7 +2,6 @@
 use Rattle.std.specs.Prelude.{ℕ}
 use Rattle.panel_file.specs.declared.refusal.FileFault.{FileFault}
 use Rattle.panel_file.specs.declared.refusal.FileFault.TheVariants.{EndsEarly, WrongCount, WrongParts, WrongSize, PartBeyond, BytesLeftOver, WrongNameByte}
-use Rattle.panel_file.specs.declared.refusal.FileRefusal.{FileRefusal}
 use Rattle.panel_file.specs.declared.refusal.FillFault.{FillFault}
 use Rattle.panel_file.specs.declared.refusal.FillFault.TheVariants.{File, GridLength}
 use Rattle.panel_file.specs.declared.refusal.Section.{Section}

@@ -1,4 +1,5 @@
 // Panel files: what one holds, and every reason to refuse one.
+#![tactic(auto)]
 
 mod field;
 pub mod filled;

@@ -6,7 +6,7 @@ use Rattle.panel_file.specs.Fill.{of_file}
 use Rattle.panel_file.proofs.Sections.{found}
 use Rattle.panel_file.proofs.filled.admit.Goals as goal
 
-pub returns-in-err-size : goal.returns-in-err-size
-returns-in-err-size c =
+pub returns-in_err-size : goal.returns-in_err-size
+returns-in_err-size c =
     let file = c.args.file.now in
-    exit _ c.from-residual.ensures.1 ∙ sym (stop (of_file (open_answer file)) _ _ (ap of_file (refused_by (open_answer file) (found file) _ c.in-err-size.ensures.answer)))
+    exit _ c.from_residual.ensures.1 ∙ sym (stop (of_file (open_answer file)) _ _ (ap of_file (refused_by (open_answer file) (found file) _ c.in_err-size.ensures.answer)))

@@ -10,14 +10,14 @@ use Rattle.panel_file.proofs.filled.store.Goals as goal
 sample_there : (width i n end : ℕ) → i < n → 7 + n * width ≤ end → 7 + i * width + width ≤ end
 sample_there width i n end low within = omega (arith, mul-le-mul_right width low)
 
-pub sample-at-requires : goal.sample-at-requires
-sample-at-requires g c =
-    rw c.part-count-width.ensures (sample_there (g.K.Sample.count * 4) c.loop-i.i (length c.args.grid.now) (length c.args.file.now) c.loop-i-test.true c.requires)
+pub sample_at-requires : goal.sample_at-requires
+sample_at-requires g c =
+    rw c.part_count-width.ensures (sample_there (g.K.Sample.count * 4) c.loop-i.i (length c.args.grid.now) (length c.args.file.now) c.loop-i-test.true c.requires)
 
 pub loop-i-preserved : goal.loop-i-preserved
 loop-i-preserved g c =
     sample_more g.K.Sample.parts (λ j. parts_at c.args.file.now g.K.Sample.count (7 + j * (g.K.Sample.count * 4))) c.loop-i.grid c.loop-i.i c.sample_at.result
-    (c.sample_at.ensures ∙ ap (λ n. parts_at c.args.file.now g.K.Sample.count (7 + c.loop-i.i * (n * 4))) c.part-count-width.ensures) (omega arith) c.loop-i.invariant
+    (c.sample_at.ensures ∙ ap (λ n. parts_at c.args.file.now g.K.Sample.count (7 + c.loop-i.i * (n * 4))) c.part_count-width.ensures) (omega arith) c.loop-i.invariant
 
 pub returns : goal.returns
 returns g c =

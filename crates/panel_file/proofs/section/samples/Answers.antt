@@ -1,5 +1,5 @@
 -- No count of numbers is too great for its type.
-use Rattle.std.proofs.Common.{◌≡◌, ℕ, ◌*◌, ◌<◌, ◌≤◌, mul-le-mul, arith, rules}
+use Rattle.std.proofs.Common.{◌≡◌, ℕ, ◌*◌, ◌≤◌, mul-le-mul, arith, rules}
 use Rattle.panel_file.proofs.section.samples.Goals as goal
 
 -- Rows and columns are bytes, and so is the number of parts.
@@ -9,8 +9,8 @@ numbers_few rows columns parts places r s p e =
     let few : places ≤ 65025 = omega arith in
     mul-le-mul few p
 
-pub parts-within-requires : goal.parts-within-requires
-parts-within-requires c =
+pub parts_within-requires : goal.parts_within-requires
+parts_within-requires c =
     omega (arith, numbers_few c.args.size.rows c.args.size.columns c.args.parts c.count-places.result (search rules) (search rules) (search rules) c.count-places.ensures)
 
 pub returns : goal.returns
