@@ -1,7 +1,7 @@
 -- Numbers made from a line, linear in the line.
 use Rattle.std.specs.Prelude.{◌≡◌, ℕ, zero, suc, Bool, true, false, cond, ℤ, ◌+ℤ◌, ◌-ℤ◌, ◌*ℤ◌, refl}
 use Rattle.std.proofs.Common.{arith, sym, ap, ap₂, ◌∙◌}
-use Rattle.std.proofs.Math.IntN.{-ℤ-+ℤ_cancel}
+use Rattle.std.proofs.Math.IntN.{ -ℤ-+ℤ_cancel}
 use Rattle.std.proofs.Math.Path.{fun_ext}
 use Rattle.std.proofs.lemmas.Int.{ints}
 use Rattle.line.specs.Ring.{*-add}
@@ -15,7 +15,7 @@ pub record Linear (f : Form) : Type 0 where
   pub scales : (c : ℤ) (x : ℕ → ℤ) → f (λ i. c *ℤ x i) ≡ c *ℤ f x
 
 pub subtracts : {f : Form} → Linear f → (x y : ℕ → ℤ) → f (λ i. x i -ℤ y i) ≡ f x -ℤ f y
-subtracts {f} l x y = omega (arith, ints, l .adds (λ i. x i -ℤ y i) y, ap f (fun_ext (λ i. -ℤ-+ℤ_cancel (x i) (y i))))
+subtracts {f} l x y = omega (arith, ints, l.adds (λ i. x i -ℤ y i) y, ap f (fun_ext (λ i. -ℤ-+ℤ_cancel (x i) (y i))))
 
 -- g is made of a line's numbers by sums and factors: over a grid, g along the rows and a linear f along the columns come to the same in either order.
 pub record Crosses (g : Form) : Type 0 where
@@ -25,13 +25,13 @@ pub at_crosses : (p : ℕ) → Crosses (λ x. x p)
 at_crosses p = record { over = λ f l m. refl }
 
 pub add_crosses : {g h : Form} → Crosses g → Crosses h → Crosses (λ x. g x +ℤ h x)
-add_crosses {g} {h} p q = record { over = λ f l m. l.adds (λ i. g (m i)) (λ i. h (m i)) ∙ ap₂ _+ℤ_ (p.over f l m) (q.over f l m) }
+add_crosses {g} {h} p q = record { over = λ f l m. l.adds (λ i. g (m i)) (λ i. h (m i)) ∙ ap₂ ◌+ℤ◌ (p.over f l m) (q.over f l m) }
 
 pub sub_crosses : {g h : Form} → Crosses g → Crosses h → Crosses (λ x. g x -ℤ h x)
-sub_crosses {g} {h} p q = record { over = λ f l m. subtracts l (λ i. g (m i)) (λ i. h (m i)) ∙ ap₂ _-ℤ_ (p.over f l m) (q.over f l m) }
+sub_crosses {g} {h} p q = record { over = λ f l m. subtracts l (λ i. g (m i)) (λ i. h (m i)) ∙ ap₂ ◌-ℤ◌ (p.over f l m) (q.over f l m) }
 
 pub scale_crosses : {g : Form} (c : ℤ) → Crosses g → Crosses (λ x. c *ℤ g x)
-scale_crosses {g} c p = record { over = λ f l m. l.scales c (λ i. g (m i)) ∙ ap (_*ℤ_ c) (p.over f l m) }
+scale_crosses {g} c p = record { over = λ f l m. l.scales c (λ i. g (m i)) ∙ ap (◌*ℤ◌ c) (p.over f l m) }
 
 pub cond_crosses : {g h : Form} (b : Bool) → Crosses g → Crosses h → Crosses (λ x. cond b (g x) (h x))
 cond_crosses true p q = p

@@ -1,4 +1,5 @@
 // Lines, their laws and the line solvers.
+#![tactic(auto)]
 
 pub mod elimination;
 mod fixed;

@@ -8,7 +8,7 @@ use Rattle.fit_line.proofs.words.numbers_of.Goals as goal
 
 pub loop-word-init : goal.loop-word-init
 loop-word-init c =
-    let whole = ap split_whitespace_rest c.into-iter-word-iterator.ensures.into-iter-gives ∙ c.split-whitespace-word-items.ensures.rest in
+    let whole = ap split_whitespace_rest c.into_iter-word-iterator.ensures.into_iter_gives ∙ c.split_whitespace-word-items.ensures.rest in
     rw whole (none_yet c.args.text.now _ c.new-numbers.ensures.items)
 
 pub loop-word-preserved : goal.loop-word-preserved
@@ -17,7 +17,7 @@ loop-word-preserved c =
     let reads = c.in-Ok.ensures.value.0 in
     let number : to_z w64 (of_z w64 c.in-Ok.number) ≡ signed_digits_value 10 c.in-Some.word.now =
     ap (λ (z : ℤ). to_z w64 (of_z w64 z)) reads.1 ∙ to_z-of_z w64 (signed_digits_value 10 c.in-Some.word.now) reads.0.1 in
-    one_more c.loop-word.invariant first reads.0 (c.in-ok-push.ensures.items ∙ ap (λ (z : ℤ). vec_items c.loop-word.numbers ++ (z ∷ [])) number)
+    one_more c.loop-word.invariant first reads.0 (c.in_ok-push-in-Ok.ensures.items ∙ ap (λ (z : ℤ). vec_items c.loop-word.numbers ++ (z ∷ [])) number)
 
 pub returns-in-Err : goal.returns-in-Err
 returns-in-Err c =
@@ -28,5 +28,5 @@ returns-in-Err c =
 pub returns : goal.returns
 returns c = no_more c.loop-word.invariant c.in-None.ensures.steps.1
 
-pub returns-in-err-push : goal.returns-in-err-push
-returns-in-err-push c = no_memory c.args.text.now _ c.from-residual.result c.from-residual.ensures.1
+pub returns-in_err-push-in-Ok : goal.returns-in_err-push-in-Ok
+returns-in_err-push-in-Ok c = no_memory c.args.text.now _ c.from_residual.result c.from_residual.ensures.1

@@ -5,8 +5,8 @@ use Rattle.line.specs.FixedPoint.{fraction}
 use Rattle.line.proofs.Casts.{part_is, part_fits}
 use Rattle.line.proofs.fixed.part_of.Goals as goal
 
-pub overflow-cast-result-3 : goal.overflow-cast-result-3
-overflow-cast-result-3 c = subst (SFits w64) (sym (part_is c.args.w c.args.b c.requires.0 c.requires.1)) (part_fits c.args.w c.args.b c.requires.0 c.requires.1)
+pub overflow_cast-result-3 : goal.overflow_cast-result-3
+overflow_cast-result-3 c = subst (SFits w64) (sym (part_is c.args.w c.args.b c.requires.0 c.requires.1)) (part_fits c.args.w c.args.b c.requires.0 c.requires.1)
 
 pub returns : goal.returns
 returns c =

@@ -8,9 +8,9 @@ use Rattle.line.proofs.fixed.rounded.Goals as goal
 pub returns : goal.returns
 unfolding nearest
 returns c =
-    let sum : SFits w64 c.and-a-half.result = record { sfits = c.and-a-half.type-inv } in
-    let shifted : SFits w64 (shr_z c.and-a-half.result 65536) = record { sfits = omega (arith, mag_shr c.and-a-half.result 65536, c.and-a-half.type-inv) } in
-    ap (λ z. to_z w64 (of_z w64 (shr_z z 65536))) (to_z-of_z w64 c.and-a-half.result sum)
-    ∙ to_z-of_z w64 (shr_z c.and-a-half.result 65536) shifted
-    ∙ ap (λ z. shr_z z 65536) c.and-a-half.ensures
+    let sum : SFits w64 c.and_a_half.result = record { sfits = c.and_a_half.type_inv } in
+    let shifted : SFits w64 (shr_z c.and_a_half.result 65536) = record { sfits = omega (arith, mag_shr c.and_a_half.result 65536, c.and_a_half.type_inv) } in
+    ap (λ z. to_z w64 (of_z w64 (shr_z z 65536))) (to_z-of_z w64 c.and_a_half.result sum)
+    ∙ to_z-of_z w64 (shr_z c.and_a_half.result 65536) shifted
+    ∙ ap (λ z. shr_z z 65536) c.and_a_half.ensures
     ∙ ap (λ z. shr_z (z +ℤ pos 32768) 65536) (to_z-of_z w64 c.args.v c.ranges.v)

@@ -1,5 +1,5 @@
 -- At every length.
-use Rattle.line.specs.Doubled.{doubled}
+use Rattle.line.proofs.Doubled.{doubled}
 use Rattle.line.proofs.laws.doubled_ends_are_dominant.Goals as goal
 
 pub returns : goal.returns

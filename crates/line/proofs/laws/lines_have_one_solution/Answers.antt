@@ -1,6 +1,6 @@
 -- For every dominant rule at most one, for doubled ends exactly one.
-use Rattle.line.specs.Doubled.{doubled, doubled_solvable}
-use Rattle.line.specs.Rules.{one_solution}
+use Rattle.line.proofs.Doubled.{doubled, doubled_solvable}
+use Rattle.line.proofs.Rules.{one_solution}
 use Rattle.line.proofs.laws.lines_have_one_solution.Goals as goal
 
 pub returns : goal.returns

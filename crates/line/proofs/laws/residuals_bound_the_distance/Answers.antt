@@ -1,6 +1,6 @@
 -- For every dominant rule, and so for doubled ends.
-use Rattle.line.specs.Doubled.{doubled}
-use Rattle.line.specs.Rules.{near_exact}
+use Rattle.line.proofs.Doubled.{doubled}
+use Rattle.line.proofs.Rules.{near_exact}
 use Rattle.line.proofs.laws.residuals_bound_the_distance.Goals as goal
 
 pub returns : goal.returns

@@ -1,8 +1,8 @@
 -- For every dominant rule, so for doubled ends, and so for every sound solver.
 use Rattle.std.proofs.Common.{length}
 use Rattle.line.specs.Line.{place}
-use Rattle.line.specs.Doubled.{doubled}
-use Rattle.line.specs.Rules.{sized}
+use Rattle.line.proofs.Doubled.{doubled}
+use Rattle.line.proofs.Rules.{sized}
 use Rattle.line.proofs.laws.residuals_bound_the_size.Goals as goal
 
 pub returns : goal.returns

@@ -6,7 +6,7 @@ use Rattle.line.specs.Line.{OnLine, Sums}
 use Rattle.line.specs.Laws.{Dominant, Solves, NearExact, OneSolution, Solvable, Sized}
 use Rattle.line.specs.Ring.{ring, parts, same_dif}
 use Rattle.line.specs.Products.{pos-*, together, times_within}
-use Rattle.line.specs.Places.{or_last, greatest}
+use Rattle.line.proofs.Places.{or_last, greatest}
 use Rattle.line.specs.Linear.{Linear, subtracts}
 
 before_last : (d : ℕ) (e k : ℤ) → pos d *ℤ (pos 6 *ℤ k) +ℤ e *ℤ pos 0 ≡ pos (6 * d) *ℤ k
@@ -29,10 +29,6 @@ sign_abs : (a : ℤ) → sign a *ℤ a ≡ pos (unsigned_abs a)
 unfolding sign
 sign_abs (pos n) = omega (arith, ints)
 sign_abs (negsuc n) = omega (arith, ints)
-
--- All weights of a row come to at most 6: a sum is at most six times as great as the line.
-abbrev pub SixFold : ℕ → Sums → Type 0
-SixFold n sums = (x : ℕ → ℤ) (j g : ℕ) → OnLine n j → ((i : ℕ) → OnLine n i → unsigned_abs (x i) ≤ g) → unsigned_abs (sums x j) ≤ 6 * g
 
 module _ {n : ℕ} {sums : Sums} (rule : Dominant n sums) where
   pub along : (j : ℕ) → Linear (λ x. sums x j)
