@@ -3,7 +3,7 @@ use Rattle.std.proofs.Common.{ℕ, ◌*◌, ◌≤◌, sym, refl, ◌∙◌, ari
 use Rattle.line.specs.Line.{Sums, sum_at}
 use Rattle.line.specs.Laws.{Dominant, Solvable}
 use Rattle.line.specs.Linear.{Crosses}
-use Rattle.line.specs.Doubled.{doubled}
+use Rattle.line.proofs.Doubled.{doubled}
 use Rattle.surface.specs.Surface.{patch_sum}
 use Rattle.surface.specs.Laws.{OfGrids, SomeGrid, OneGrid, RowsThenColumn, ColumnsThenRow, ReadsNear, ReadsSample}
 use Rattle.surface.proofs.Grids as Grids

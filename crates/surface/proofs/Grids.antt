@@ -6,7 +6,7 @@ use Rattle.line.specs.Line.{OnLine, Sums}
 use Rattle.line.specs.Laws.{Dominant, Solvable}
 use Rattle.line.specs.Products.{together, times_within}
 use Rattle.line.specs.Linear.{Crosses}
-use Rattle.line.specs.Rules.{along, near, same}
+use Rattle.line.proofs.Rules.{along, near, same}
 use Rattle.surface.specs.Surface.{Through}
 
 module _ {rows columns : ℕ} {down across : Sums} (vertical : Dominant rows down) (horizontal : Dominant columns across) where

@@ -5,8 +5,9 @@ use mathlib.Core.Path.{fun_ext}
 use Rattle.std.proofs.lemmas.Int.{ints}
 use Rattle.line.specs.Line.{OnLine, clamped, sum_at}
 use Rattle.line.specs.Products.{together, abs_scaled}
-use Rattle.line.specs.Rules.{along}
-use Rattle.line.specs.Doubled.{doubled, doubled_crosses}
+use Rattle.line.proofs.Rules.{along}
+use Rattle.line.specs.Doubled.{doubled_crosses}
+use Rattle.line.proofs.Doubled.{doubled}
 use Rattle.surface.specs.Surface.{weight, line_around, four, blend, patch_sum, F, Near}
 use Rattle.surface.proofs.Grids.{turned}
 use Rattle.surface.proofs.Weighted.{total, weighted, weighted_factor, weighted_near}

@@ -123,8 +123,8 @@ fn weighed(weight: i64, number: i64) -> i64
 
 // Four products of a weight, whose sum fits.
 fn sum_of(a: i64, b: i64, c: i64, d: i64) -> i64
-    requires a_bound { (unsigned_abs a ≤ 1099511627776000000) × (unsigned_abs b ≤ 1099511627776000000) }
-    requires c_bound { (unsigned_abs c ≤ 1099511627776000000) × (unsigned_abs d ≤ 1099511627776000000) }
+    requires left { (unsigned_abs a ≤ 1099511627776000000) × (unsigned_abs b ≤ 1099511627776000000) }
+    requires right { (unsigned_abs c ≤ 1099511627776000000) × (unsigned_abs d ≤ 1099511627776000000) }
     ensures { result ≡ ((a +ℤ b) +ℤ c) +ℤ d }
 {
     a + b + c + d
@@ -132,8 +132,8 @@ fn sum_of(a: i64, b: i64, c: i64, d: i64) -> i64
 
 // Four numbers, each times its weight.
 fn weighed_sum(weights: &[i64; 4], numbers: &[i64; 4]) -> i64
-    requires low { Low 131072 weights.now }
-    requires low_2 { Low 8388608000000 numbers.now }
+    requires weights_low { Low 131072 weights.now }
+    requires numbers_low { Low 8388608000000 numbers.now }
     ensures { result ≡ products weights.now numbers.now }
 {
     sum_of(
@@ -146,8 +146,8 @@ fn weighed_sum(weights: &[i64; 4], numbers: &[i64; 4]) -> i64
 
 // The four points of a row, each times its weight.
 fn row_sum(weights: &[i64; 4], row: &[i32; 4]) -> i64
-    requires low_2 { Low 131072 weights.now }
-    requires low_3 { Low reach row.now }
+    requires weights_low { Low 131072 weights.now }
+    requires row_low { Low reach row.now }
     ensures value { result ≡ products weights.now row.now }
     ensures low { unsigned_abs result ≤ 8388608000000 }
 {
@@ -164,9 +164,9 @@ fn row_sum(weights: &[i64; 4], row: &[i32; 4]) -> i64
 
 // All sixteen points, each times its two weights: first within each row, then over the rows.
 fn sum_of_rows(down: &[i64; 4], across: &[i64; 4], rows: &[[i32; 4]; 4]) -> i64
-    requires low { Low 131072 down.now }
-    requires low_2 { Low 131072 across.now }
-    requires rows_value { within_reach (point rows.now) ≡ true }
+    requires down_low { Low 131072 down.now }
+    requires across_low { Low 131072 across.now }
+    requires rows_low { within_reach (point rows.now) ≡ true }
     ensures { result ≡ products_of down.now (λ a. products across.now (slice_index_or rows.now a [])) }
 {
     weighed_sum(

@@ -1,5 +1,5 @@
 -- Under doubled ends.
-use Rattle.line.specs.Doubled.{doubled_solvable}
+use Rattle.line.proofs.Doubled.{doubled_solvable}
 use Rattle.surface.proofs.GridLaws.{doubled_rule, some_grid, one_grid}
 use Rattle.surface.proofs.laws.grids_have_one_surface.Goals as goal
 

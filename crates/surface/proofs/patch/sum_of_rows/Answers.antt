@@ -4,21 +4,21 @@ use Rattle.surface.specs.Patch.{point}
 use Rattle.surface.proofs.Sums.{kept_four, point_low}
 use Rattle.surface.proofs.patch.sum_of_rows.Goals as goal
 
-pub row-sum-requires : goal.row-sum-requires
-row-sum-requires c = (c.requires.1, λ b h. point_low (point c.args.rows.now) c.requires.2 0 b (omega arith) h)
+pub row_sum-requires : goal.row_sum-requires
+row_sum-requires c = record { weights_low = c.requires.across_low; row_low = λ b h. point_low (point c.args.rows.now) c.requires.rows_low 0 b (omega arith) h }
 
-pub row-sum-requires-2 : goal.row-sum-requires-2
-row-sum-requires-2 c = (c.requires.1, λ b h. point_low (point c.args.rows.now) c.requires.2 1 b (omega arith) h)
+pub row_sum-requires-2 : goal.row_sum-requires-2
+row_sum-requires-2 c = record { weights_low = c.requires.across_low; row_low = λ b h. point_low (point c.args.rows.now) c.requires.rows_low 1 b (omega arith) h }
 
-pub row-sum-requires-3 : goal.row-sum-requires-3
-row-sum-requires-3 c = (c.requires.1, λ b h. point_low (point c.args.rows.now) c.requires.2 2 b (omega arith) h)
+pub row_sum-requires-3 : goal.row_sum-requires-3
+row_sum-requires-3 c = record { weights_low = c.requires.across_low; row_low = λ b h. point_low (point c.args.rows.now) c.requires.rows_low 2 b (omega arith) h }
 
-pub row-sum-requires-4 : goal.row-sum-requires-4
-row-sum-requires-4 c = (c.requires.1, λ b h. point_low (point c.args.rows.now) c.requires.2 3 b (omega arith) h)
+pub row_sum-requires-4 : goal.row_sum-requires-4
+row_sum-requires-4 c = record { weights_low = c.requires.across_low; row_low = λ b h. point_low (point c.args.rows.now) c.requires.rows_low 3 b (omega arith) h }
 
-pub weighed-sum-requires : goal.weighed-sum-requires
-weighed-sum-requires c = (
-  c.requires.0,
-  kept_four c.row_sum.result c.row-sum-2.result c.row-sum-3.result c.row-sum-4.result
-      c.row_sum.ensures.low c.row-sum-2.ensures.low c.row-sum-3.ensures.low c.row-sum-4.ensures.low,
-)
+pub weighed_sum-requires : goal.weighed_sum-requires
+weighed_sum-requires c = record {
+  weights_low = c.requires.down_low;
+  numbers_low = kept_four c.row_sum.result c.row_sum-2.result c.row_sum-3.result c.row_sum-4.result
+      c.row_sum.ensures.low c.row_sum-2.ensures.low c.row_sum-3.ensures.low c.row_sum-4.ensures.low;
+}

@@ -2,8 +2,8 @@
 use Rattle.surface.proofs.Sums.{product_fits, product_is, product_within}
 use Rattle.surface.proofs.patch.weighed.Goals as goal
 
-pub overflow-mul-result : goal.overflow-mul-result
-overflow-mul-result c = product_fits c.args.weight c.args.number c.requires.0 c.requires.1
+pub overflow_mul-result : goal.overflow_mul-result
+overflow_mul-result c = product_fits c.args.weight c.args.number c.requires.0 c.requires.1
 
 pub returns : goal.returns
 returns c = record {
