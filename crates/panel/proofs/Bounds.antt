@@ -1,8 +1,8 @@
 -- How great points along current lines are.
 use Rattle.std.proofs.Common.{◌≡◌, ℕ, ◌≤◌, true, ℤ, pos, ◌*ℤ◌, nat_abs, arith}
 use Rattle.line.specs.Line.{OnLine}
-use Rattle.line.specs.Rules.{sized}
-use Rattle.line.specs.Doubled.{doubled}
+use Rattle.line.proofs.Rules.{sized}
+use Rattle.line.proofs.Doubled.{doubled}
 use Rattle.std.specs.List.{AllByRecursion as All}
 use Rattle.grid.specs.Grid.{Grid}
 use Rattle.panel.specs.declared.record.Panel.{Panel}

@@ -6,7 +6,8 @@ use Rattle.std.proofs.lemmas.Bool.{le-leb, eq-eqb}
 use Rattle.std.proofs.lemmas.Bool.Decides.{nat_tests}
 use Rattle.line.specs.Line.{OnLine, clamped, sum_at}
 use Rattle.surface.specs.Surface.{ExactGrid, Near, patch_sum}
-use Rattle.line.specs.Doubled.{doubled, doubled_crosses, doubled_solvable}
+use Rattle.line.specs.Doubled.{doubled_crosses}
+use Rattle.line.proofs.Doubled.{doubled, doubled_solvable}
 use Rattle.surface.proofs.Grids.{turned}
 use Rattle.surface.proofs.GridLaws.{some_grid, one_grid, rows_then_column, columns_then_row, doubled_rule}
 use Rattle.surface.proofs.Readings.{reading_near, patch_on_sample, sample_near, sums_near}

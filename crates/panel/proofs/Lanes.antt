@@ -10,8 +10,8 @@ use Rattle.line.specs.Products.{abs-*}
 use Rattle.panel_fault.specs.declared.PanelFault.{PanelFault}
 use Rattle.panel.specs.Calls.{Answer, solver_took, solver_takes}
 use Rattle.line.specs.Solver.{Solver, Sound, limit}
-use Rattle.line.specs.Doubled.{doubled}
-use Rattle.line.specs.Rules.{sized}
+use Rattle.line.proofs.Doubled.{doubled}
+use Rattle.line.proofs.Rules.{sized}
 use Rattle.line.proofs.Accepted.{accepted}
 use Rattle.grid.specs.Grid.{Grid}
 use Rattle.grid.specs.Sample.{part_of, with_part}

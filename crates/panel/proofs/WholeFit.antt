@@ -11,8 +11,8 @@ use Rattle.grid.specs.Grid.{Grid}
 use Rattle.grid.proofs.Chains.{both_good, held, holds_good, over}
 use Rattle.line.specs.Line.{OnLine, place}
 use Rattle.line.specs.Solver.{Solver, Sound}
-use Rattle.line.specs.Doubled.{doubled}
-use Rattle.line.specs.Rules.{sized}
+use Rattle.line.proofs.Doubled.{doubled}
+use Rattle.line.proofs.Rules.{sized}
 use Rattle.surface.proofs.Below.{below_passes}
 use Rattle.panel.specs.declared.record.Panel.{Panel}
 use Rattle.panel.specs.declared.record.Mark.{Mark}

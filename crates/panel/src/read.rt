@@ -6,7 +6,7 @@ ghost use Rattle.grid.specs.Grid.{Grid, at};
 ghost use Rattle.line.specs.Line.{OnLine};
 ghost use Rattle.surface.specs.Patch.{within_reach};
 ghost use Rattle.panel.specs.Calls.{sized, mark, first_lines};
-ghost use Rattle.panel.specs.Reading.{InArea, in_area, needed as needed-line, needed_current, needed_within, around, reading as part_read, greatest, tolerance as stated, read_answer, shown, sample_shown};
+ghost use Rattle.panel.specs.Reading.{InArea, in_area, needed as needed_line, needed_current, needed_within, around, reading as part_read, greatest, tolerance as stated, read_answer, shown, sample_shown};
 ghost use Rattle.panel.specs.Runs.{Reached, History, ReadsFaithfully};
 
 use crate::checks::{check, is_between};
@@ -33,7 +33,7 @@ impl Panel {
 
     // The second lines through the sixteen control points around a place.
     fn needed(&self, x: usize, y: usize) -> [usize; 4]
-        ensures { result ≡ map (needed-line self.now x y) (range_with_len 0 4) }
+        ensures { result ≡ map (needed_line self.now x y) (range_with_len 0 4) }
     {
         match self.order {
             Order::RowsFirst => lines_around(self.columns as usize, y),
@@ -50,7 +50,7 @@ impl Panel {
 
     // The checks of a reading before that of its control points.
     fn may_read<K: Sample>(&self, controls: &[K], x: i32, y: i32) -> Result<(), PanelFault>
-        ensures { result ≡ then (checked (sized self.now (map K.Sample.parts controls.now)) PanelFault.GridLength) (then (checked (in_area self.now x y) PanelFault.OutsideArea) (checked (needed_current self.now (unsigned_abs x) (unsigned_abs y)) PanelFault.SecondStale)) }
+        ensures { result ≡ (then) (checked (sized self.now (map K.Sample.parts controls.now)) PanelFault.GridLength) ((then) (checked (in_area self.now x y) PanelFault.OutsideArea) (checked (needed_current self.now (unsigned_abs x) (unsigned_abs y)) PanelFault.SecondStale)) }
     {
         check(self.is_sized(controls), PanelFault::GridLength)?;
         check(self.has_in_area(x, y), PanelFault::OutsideArea)?;
@@ -69,7 +69,7 @@ impl Panel {
 
     // The greatest grade of the second lines that a reading needs.
     fn second_grade(&self, x: usize, y: usize) -> u8
-        ensures { result ≡ greatest (λ a. (mark self.now.second (needed-line self.now x y (a - 1))).grade) 4 }
+        ensures { result ≡ greatest (λ a. (mark self.now.second (needed_line self.now x y (a - 1))).grade) 4 }
     {
         let lines = self.needed(x, y);
         let mut most = 0u8;
@@ -147,7 +147,7 @@ impl Panel {
     // The reading as a sample: any sample of the kind, with each part replaced.
     fn reading<K: Sample>(&self, controls: &[K], x: usize, y: usize) -> Result<K, PanelFault>
         requires { (length controls.now ≡ self.now.rows * self.now.columns) × (InArea self.now x y) }
-        ensures { sample_shown K.Sample.parts result ≡ then (checked (needed_within K.Sample.count self.now (map K.Sample.parts controls.now) x y) PanelFault.ControlBeyond) (Ok (map (part_read self.now (map K.Sample.parts controls.now) x y) (range_with_len 1 K.Sample.count))) }
+        ensures { sample_shown K.Sample.parts result ≡ (then) (checked (needed_within K.Sample.count self.now (map K.Sample.parts controls.now) x y) PanelFault.ControlBeyond) (Ok (map (part_read self.now (map K.Sample.parts controls.now) x y) (range_with_len 1 K.Sample.count))) }
     {
         let mut sample = controls[0];
         for k in 0..K::part_count() {
@@ -161,7 +161,7 @@ impl Panel {
 
     // A reading with its checks.
     fn answered<K: Sample>(&self, controls: &[K], x: i32, y: i32) -> Result<(K, u32), PanelFault>
-        ensures { shown K-as-Sample.parts result ≡ read_answer K-as-Sample.count self.now (map K-as-Sample.parts controls.now) x y }
+        ensures { shown K.Sample.parts result ≡ read_answer K.Sample.count self.now (map K.Sample.parts controls.now) x y }
     {
         self.may_read(controls, x, y)?;
         let sample = self.reading(controls, x as usize, y as usize)?;
@@ -171,11 +171,11 @@ impl Panel {
     // Reads the surface at x along the rows' numbering and y along the columns', in 32nds with row 1 at 32: the reading in fine units, part
     // by part, and its tolerance. After any calls since make each part lies within half the tolerance of the exact surface through the samples held.
     pub fn read<K: Sample>(&self, controls: &[K], x: i32, y: i32) -> Result<(K, u32), PanelFault>
-        ensures answer { shown K-as-Sample.parts result ≡ read_answer K-as-Sample.count self.now (map K-as-Sample.parts controls.now) x y }
+        ensures answer { shown K.Sample.parts result ≡ read_answer K.Sample.count self.now (map K.Sample.parts controls.now) x y }
         ensures faithful { (made samples halves : Grid) (h : History) (u v : ℕ) → x ≡ pos u → y ≡ pos v →
-            Reached K-as-Sample.count made (record { panel = self.now; samples = samples; halves = halves; controls = map K-as-Sample.parts controls.now }) h →
+            Reached K.Sample.count made (record { panel = self.now; samples = samples; halves = halves; controls = map K.Sample.parts controls.now }) h →
             InArea self.now u v →
-            ReadsFaithfully K-as-Sample.count self.now made h u v (shown K-as-Sample.parts result) }
+            ReadsFaithfully K.Sample.count self.now made h u v (shown K.Sample.parts result) }
     {
         self.answered(controls, x, y)
     }

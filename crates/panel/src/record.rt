@@ -73,9 +73,9 @@ impl Panel {
 
 // Where a place stands in a grid of that length.
 pub(crate) fn index_of(length: usize, columns: usize, row: usize, column: usize) -> usize
-    requires le_row { 1 ≤ row }
-    requires le_column { 1 ≤ column }
-    requires column_in_bounds { index columns row column < length }
+    requires row_counted { 1 ≤ row }
+    requires column_counted { 1 ≤ column }
+    requires inside { index columns row column < length }
     ensures value { result ≡ index columns row column }
     ensures within { result < length }
 {

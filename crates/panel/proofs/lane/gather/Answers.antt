@@ -7,8 +7,8 @@ use Rattle.panel.specs.Lane.{on_lane}
 use Rattle.panel.proofs.Lanes.{product_fits, product_is, wrote}
 use Rattle.panel.proofs.lane.gather.Goals as goal
 
-pub overflow-mul-line : goal.overflow-mul-line
-overflow-mul-line g c =
+pub overflow_mul-line : goal.overflow_mul-line
+overflow_mul-line g c =
     let f : SFits w32 c.part.result = search rules in
     product_fits c.from.result c.from-in-loop-e.result c.args.scale c.part.result c.from.ensures c.from-in-loop-e.ensures (omega arith) f
 

@@ -27,9 +27,9 @@ loop-q-init g c =
       c.requires.1.1.1,
     )
 
-pub slice-bounds-solve-part-end : goal.slice-bounds-solve-part-end
-slice-bounds-solve-part-end g c =
-    let few : c.loop-q.q < 4 = omega (arith, g.met.K.Sample.counted.1, c.part-count-q-end.ensures) in
+pub slice_bounds-solve_part-end : goal.slice_bounds-solve_part-end
+slice_bounds-solve_part-end g c =
+    let few : c.loop-q.q < 4 = omega (arith, g.met.K.Sample.counted.1, c.part_count-q-end.ensures) in
     search rules
 
 pub loop-q-preserved : goal.loop-q-preserved
@@ -37,35 +37,35 @@ loop-q-preserved g c =
     let lines = laned c.args.scale (map g.K.Sample.parts c.args.source.now) c.args.lane in
     let q = c.loop-q.q in
     let n = c.args.lane.count in
-    let low : q < 4 = omega (arith, g.met.K.Sample.counted.1, c.part-count-q-end.ensures) in
+    let low : q < 4 = omega (arith, g.met.K.Sample.counted.1, c.part_count-q-end.ensures) in
     let long : length c.loop-q.fitted ≡ 256 = omega (arith, c.requires.1.1.0) in
     let all : (k : ℕ) → length (lines k) ≡ n = λ k. length-map-range_with_len _ 0 n in
-    let a = c.in-ok-solve-part.ensures in
+    let a = c.in_ok-solve_part.ensures in
     let m : g.K.Sample.count - (q + 1) ≡ g.K.Sample.count - q - 1 = omega arith in (
-      rw m (sym (takes_on c.args.number (q + 1) lines (g.K.Sample.count - q) (omega (arith, c.part-count-q-end.ensures)) (in_room c.args.number q n lines g.S.LineSolver.meaning c.loop-q.fitted (omega arith) low long all a.answer)) ∙ c.loop-q.invariant.0),
-      fills c.args.number q n lines g.S.LineSolver.meaning c.loop-q.fitted (omega arith) low long all g.met.S.LineSolver.sound c.solve-part.new.out a.answer a.after c.loop-q.invariant.1,
-      stays_narrow c.args.number q n lines g.S.LineSolver.meaning c.loop-q.fitted (omega arith) low long all g.met.S.LineSolver.sound c.solve-part.new.out a.answer a.after c.loop-q.invariant.2,
+      rw m (sym (takes_on c.args.number (q + 1) lines (g.K.Sample.count - q) (omega (arith, c.part_count-q-end.ensures)) (in_room c.args.number q n lines g.S.LineSolver.meaning c.loop-q.fitted (omega arith) low long all a.answer)) ∙ c.loop-q.invariant.0),
+      fills c.args.number q n lines g.S.LineSolver.meaning c.loop-q.fitted (omega arith) low long all g.met.S.LineSolver.sound c.solve_part.new.out a.answer a.after c.loop-q.invariant.1,
+      stays_narrow c.args.number q n lines g.S.LineSolver.meaning c.loop-q.fitted (omega arith) low long all g.met.S.LineSolver.sound c.solve_part.new.out a.answer a.after c.loop-q.invariant.2,
     )
 
-pub returns-in-err-solve-part : goal.returns-in-err-solve-part
-returns-in-err-solve-part g c =
+pub returns-in_err-solve_part : goal.returns-in_err-solve_part
+returns-in_err-solve_part g c =
     let lines = laned c.args.scale (map g.K.Sample.parts c.args.source.now) c.args.lane in
     let q = c.loop-q.q in
     let n = c.args.lane.count in
-    let low : q < 4 = omega (arith, g.met.K.Sample.counted.1, c.part-count-q-end.ensures) in
+    let low : q < 4 = omega (arith, g.met.K.Sample.counted.1, c.part_count-q-end.ensures) in
     let long : length c.loop-q.fitted ≡ 256 = omega (arith, c.requires.1.1.0) in
     let all : (k : ℕ) → length (lines k) ≡ n = λ k. length-map-range_with_len _ 0 n in
-    let is = exit _ c.from-residual.ensures.1 in
+    let is = exit _ c.from_residual.ensures.1 in
     record {
-      answer = ap as_answer is ∙ sym (takes_out c.args.number (q + 1) lines (g.K.Sample.count - q) (omega (arith, c.part-count-q-end.ensures)) (in_room c.args.number q n lines g.S.LineSolver.meaning c.loop-q.fitted (omega arith) low long all c.in-err-solve-part.ensures.answer)) ∙ c.loop-q.invariant.0;
+      answer = ap as_answer is ∙ sym (takes_out c.args.number (q + 1) lines (g.K.Sample.count - q) (omega (arith, c.part_count-q-end.ensures)) (in_room c.args.number q n lines g.S.LineSolver.meaning c.loop-q.fitted (omega arith) low long all c.in_err-solve_part.ensures.answer)) ∙ c.loop-q.invariant.0;
       filled = λ no. let z : ◌≡◌ {A = ℕ} 0 1 = cc in absurd (omega arith);
     }
 
 pub returns : goal.returns
 returns g c =
     let lines = laned c.args.scale (map g.K.Sample.parts c.args.source.now) c.args.lane in
-    let m : g.K.Sample.count - c.loop-q.q ≡ 0 = omega (arith, c.part-count-q-end.ensures) in
+    let m : g.K.Sample.count - c.loop-q.q ≡ 0 = omega (arith, c.part_count-q-end.ensures) in
     record {
       answer = sym (ap (λ n. solver_takes c.args.number (c.loop-q.q + 1) n lines) m) ∙ c.loop-q.invariant.0;
-      filled = λ _. (omega arith, (λ q e h l. c.loop-q.invariant.1 q e (omega (arith, c.part-count-q-end.ensures)) l), c.loop-q.invariant.2);
+      filled = λ _. (omega arith, (λ q e h l. c.loop-q.invariant.1 q e (omega (arith, c.part_count-q-end.ensures)) l), c.loop-q.invariant.2);
     }

@@ -3,11 +3,11 @@ use Rattle.surface.proofs.Below.{below_more, below_out}
 use Rattle.panel.specs.Calls.{mark, all_current}
 use Rattle.panel.proofs.marks.all_current.Goals as goal
 
-pub returns-then-not-is-current : goal.returns-then-not-is-current
-returns-then-not-is-current c = sym (below_out c.args.count (λ i. (mark c.args.marks.now (i + 1)).current) c.loop-i.i (omega arith) (sym c.is-current.ensures ∙ c.if-not-is-current.true))
+pub returns-then-not-is_current : goal.returns-then-not-is_current
+returns-then-not-is_current c = sym (below_out c.args.count (λ i. (mark c.args.marks.now (i + 1)).current) c.loop-i.i (omega arith) (sym c.is_current.ensures ∙ c.if-not-is_current.true))
 
 pub loop-i-preserved : goal.loop-i-preserved
-loop-i-preserved c = below_more c.loop-i.i (λ i. (mark c.args.marks.now (i + 1)).current) c.loop-i.invariant (sym c.is-current.ensures ∙ c.if-not-is-current.false)
+loop-i-preserved c = below_more c.loop-i.i (λ i. (mark c.args.marks.now (i + 1)).current) c.loop-i.invariant (sym c.is_current.ensures ∙ c.if-not-is_current.false)
 
 pub returns : goal.returns
 returns c =

@@ -4,17 +4,17 @@ use Rattle.panel.proofs.Given.{given}
 use Rattle.panel.proofs.WholeFit.{first_turn, first_turn_panel, first_turn_halves}
 use Rattle.panel.proofs.record.Panel.fit_first_lines.Goals as goal
 
-pub returns-in-err-first-line : goal.returns-in-err-first-line
-returns-in-err-first-line g c =
+pub returns-in_err-first_line : goal.returns-in_err-first_line
+returns-in_err-first_line g c =
     let f = g.K.Sample.parts in
     let p = c.args.self.now in
     let by = g.S.LineSolver.meaning in
     let source = map f c.args.samples.now in
-    let fits : SFits w32 c.line-number.result = search rules in
-    let number = given c.line-number.result fits ∙ c.line-number.ensures in
-    let low = subst (λ n. c.loop-i.i < n) c.first-lines-i-end.ensures.value c.loop-i-test.true in
+    let fits : SFits w32 c.line_number.result = search rules in
+    let number = given c.line_number.result fits ∙ c.line_number.ensures in
+    let low = subst (λ n. c.loop-i.i < n) c.first_lines-i-end.ensures.value c.loop-i-test.true in
     let taken = first_turn g.K.Sample.count p by source (map f c.args.halves.now) c.requires c.loop-i.self (map f c.loop-i.halves) _ c.loop-i.i c.loop-i.invariant.0 c.loop-i.invariant.1 number low in
-    let refused = c.in-err-first-line.ensures.answer in
+    let refused = c.in_err-first_line.ensures.answer in
     let z : ◌≡◌ {A = ℕ} 0 1 = cc in
     absurd (omega arith)
 
@@ -24,10 +24,10 @@ loop-i-preserved g c =
     let p = c.args.self.now in
     let by = g.S.LineSolver.meaning in
     let source = map f c.args.samples.now in
-    let fits : SFits w32 c.line-number.result = search rules in
-    let number = given c.line-number.result fits ∙ c.line-number.ensures in
-    let low = subst (λ n. c.loop-i.i < n) c.first-lines-i-end.ensures.value c.loop-i-test.true in
-    let done = c.in-ok-first-line.ensures in (
+    let fits : SFits w32 c.line_number.result = search rules in
+    let number = given c.line_number.result fits ∙ c.line_number.ensures in
+    let low = subst (λ n. c.loop-i.i < n) c.first_lines-i-end.ensures.value c.loop-i-test.true in
+    let done = c.in_ok-first_line.ensures in (
       done.panel ∙ first_turn_panel g.K.Sample.count p by source (map f c.args.halves.now) c.requires c.loop-i.self (map f c.loop-i.halves) _ c.loop-i.i c.loop-i.invariant.0 c.loop-i.invariant.1 number low,
       done.after ∙ first_turn_halves g.K.Sample.count p by source (map f c.args.halves.now) c.requires c.loop-i.self (map f c.loop-i.halves) _ c.loop-i.i c.loop-i.invariant.0 c.loop-i.invariant.1 number low,
     )

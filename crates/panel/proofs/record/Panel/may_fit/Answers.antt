@@ -9,7 +9,7 @@ returns g c =
     let rows : c.args.self.now.rows < 256 = search rules in
     let columns : c.args.self.now.columns < 256 = search rules in
     record {
-      answer = c.may-make.ensures ∙ ap₂ (λ m n. make_answer m n (map f c.args.samples.now) (map f c.args.halves.now) (map f c.args.controls.now))
+      answer = c.may_make.ensures ∙ ap₂ (λ m n. make_answer m n (map f c.args.samples.now) (map f c.args.halves.now) (map f c.args.controls.now))
           (to_z_pos w32 c.args.self.now.rows (omega arith)) (to_z_pos w32 c.args.self.now.columns (omega arith));
-      marks = c.mark-count.ensures.long;
+      marks = c.mark_count.ensures.long;
     }

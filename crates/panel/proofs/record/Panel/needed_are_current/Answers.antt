@@ -6,4 +6,4 @@ use Rattle.panel.proofs.record.Panel.needed_are_current.Goals as goal
 
 pub returns : goal.returns
 unfolding needed_current
-returns c = c.are-current.ensures ∙ ap (λ lines. all_below 4 (λ a. (mark c.args.self.now.second (get_or lines a 0)).current)) c.needed.ensures
+returns c = c.are_current.ensures ∙ ap (λ lines. all_below 4 (λ a. (mark c.args.self.now.second (get_or lines a 0)).current)) c.needed.ensures

@@ -5,29 +5,29 @@ use Rattle.grid.proofs.Chains.{exit}
 use Rattle.panel.proofs.Passed.{probing}
 use Rattle.panel.proofs.record.Panel.put.Goals as goal
 
-pub returns-in-err-may-probe : goal.returns-in-err-may-probe
-returns-in-err-may-probe g c =
+pub returns-in_err-may_probe : goal.returns-in_err-may_probe
+returns-in_err-may_probe g c =
     let row = to_z-of_z w32 c.args.row c.ranges.row in
     let column = to_z-of_z w32 c.args.column c.ranges.column in
-    let refused = rw (row, column) at c.in-err-may-probe.ensures in
-    let is = exit _ c.from-residual.ensures.1 in
+    let refused = rw (row, column) at c.in_err-may_probe.ensures in
+    let is = exit _ c.from_residual.ensures.1 in
     record { answer = is ∙ refused; panel = rw (← refused) refl; after = rw (← refused) refl; same = rw is refl }
 
-pub index-of-k-requires : goal.index-of-k-requires
-index-of-k-requires g c =
+pub index_of-k-requires : goal.index_of-k-requires
+index_of-k-requires g c =
     let row = to_z-of_z w32 c.args.row c.ranges.row in
     let column = to_z-of_z w32 c.args.column c.ranges.column in
-    let ok = rw (row, column) at c.in-ok-may-probe.ensures in
+    let ok = rw (row, column) at c.in_ok-may_probe.ensures in
     let at = probing c.args.self.now (map g.K.Sample.parts c.args.samples.now) c.args.row c.args.column (g.K.Sample.parts c.args.new) (sym ok) in
-    rw (row, column) (at.on_row.0, at.on_column.0, simp length-map at at.within)
+    rw (row, column) (record { row_counted = at.on_row.0; column_counted = at.on_column.0; inside = simp length-map at at.within })
 
 pub returns : goal.returns
 returns g c =
     let row = to_z-of_z w32 c.args.row c.ranges.row in
     let column = to_z-of_z w32 c.args.column c.ranges.column in
-    let ok = rw (row, column) at c.in-ok-may-probe.ensures in
-    let k = rw (row, column) at c.index-of-k.ensures.value in
-    let panel = rw (row, column) at c.count-probe.ensures in
+    let ok = rw (row, column) at c.in_ok-may_probe.ensures in
+    let k = rw (row, column) at c.index_of-k.ensures.value in
+    let panel = rw (row, column) at c.count_probe.ensures in
     record {
       answer = ok;
       panel = rw (← ok) panel;

@@ -17,12 +17,12 @@ bounds-controls-0 g c =
 pub loop-k-init : goal.loop-k-init
 loop-k-init g c = (within_none c.args.self.now (map g.K.Sample.parts c.args.controls.now) c.args.x c.args.y 0, λ j low. absurd (omega arith))
 
-pub returns-in-default : goal.returns-in-default
-returns-in-default g c =
+pub returns-in_default : goal.returns-in_default
+returns-in_default g c =
     let p = c.args.self.now in
     let controls = map g.K.Sample.parts c.args.controls.now in
-    let out = none_read (within_reach (around p controls (c.loop-k.k + 1) c.args.x c.args.y)) (reading p controls c.args.x c.args.y (c.loop-k.k + 1)) c.in-default.ensures in
-    sampled_beyond g.K.Sample.count p controls c.args.x c.args.y (within_out p controls c.args.x c.args.y c.loop-k.k g.K.Sample.count (omega (arith, c.part-count-k-end.ensures)) out)
+    let out = none_read (within_reach (around p controls (c.loop-k.k + 1) c.args.x c.args.y)) (reading p controls c.args.x c.args.y (c.loop-k.k + 1)) c.in_default.ensures in
+    sampled_beyond g.K.Sample.count p controls c.args.x c.args.y (within_out p controls c.args.x c.args.y c.loop-k.k g.K.Sample.count (omega (arith, c.part_count-k-end.ensures)) out)
 
 pub loop-k-preserved : goal.loop-k-preserved
 loop-k-preserved g c =
@@ -33,8 +33,8 @@ loop-k-preserved g c =
     let fits : SFits w32 c.in-Some.part = search rules in
     let read = some_read (within_reach (around p controls (c.loop-k.k + 1) c.args.x c.args.y)) c.in-Some.part (reading p controls c.args.x c.args.y (c.loop-k.k + 1)) c.in-Some.ensures in (
       within_more p controls c.args.x c.args.y c.loop-k.k c.loop-k.invariant.0 read.0,
-      λ j low. ap (λ v. get_or v j (pos 0)) (c.replace-part-sample.ensures ∙ with_part_is v c.loop-k.k _)
-          ∙ wrote (λ j. reading p controls c.args.x c.args.y (j + 1)) v c.loop-k.k _ (to_z-of_z w32 c.in-Some.part fits ∙ read.1) (omega (arith, c.part-count-k-end.ensures)) c.loop-k.invariant.1 j low,
+      λ j low. ap (λ v. get_or v j (pos 0)) (c.replace_part-sample.ensures ∙ with_part_is v c.loop-k.k _)
+          ∙ wrote (λ j. reading p controls c.args.x c.args.y (j + 1)) v c.loop-k.k _ (to_z-of_z w32 c.in-Some.part fits ∙ read.1) (omega (arith, c.part_count-k-end.ensures)) c.loop-k.invariant.1 j low,
     )
 
 pub returns : goal.returns
@@ -42,8 +42,8 @@ returns g c =
     let p = c.args.self.now in
     let controls = map g.K.Sample.parts c.args.controls.now in
     let part = reading p controls c.args.x c.args.y in
-    let done : c.loop-k.k ≡ g.K.Sample.count = omega (arith, c.part-count-k-end.ensures) in
+    let done : c.loop-k.k ≡ g.K.Sample.count = omega (arith, c.part_count-k-end.ensures) in
     sampled_all g.K.Sample.count p controls c.args.x c.args.y (g.K.Sample.parts c.loop-k.sample)
     (subst (λ k. needed_within k p controls c.args.x c.args.y ≡ true) done c.loop-k.invariant.0)
-    (fill_by_all (λ j. part (j + 1)) (g.K.Sample.parts c.loop-k.sample) g.K.Sample.count (pos 0) (g.met.K.Sample.counted.2 c.loop-k.sample) (λ j low. c.loop-k.invariant.1 j (omega (arith, c.part-count-k-end.ensures)))
+    (fill_by_all (λ j. part (j + 1)) (g.K.Sample.parts c.loop-k.sample) g.K.Sample.count (pos 0) (g.met.K.Sample.counted.2 c.loop-k.sample) (λ j low. c.loop-k.invariant.1 j (omega (arith, c.part_count-k-end.ensures)))
     ∙ shifted (λ j. part (j + 1)) part g.K.Sample.count (λ e low. refl))

@@ -10,58 +10,58 @@ use Rattle.panel.specs.Calls.{all_current, first_lines, second_lines, second_ans
 use Rattle.panel.proofs.LineCalls.{zeros, numbered, second_past, second_out, second_stale, second_within, second_takes, second_stored}
 use Rattle.panel.proofs.record.Panel.run_second.Goals as goal
 
-pub returns-in-err-may-run : goal.returns-in-err-may-run
-returns-in-err-may-run g c =
+pub returns-in_err-may_run : goal.returns-in_err-may_run
+returns-in_err-may_run g c =
     let f = g.K.Sample.parts in
     let p = c.args.self.now in
     let line = to_z-of_z w32 c.args.line c.ranges.line in
-    let refused = rw (line, c.second_lines.ensures.value) at c.in-err-may-run.ensures in
+    let refused = rw (line, c.second_lines.ensures.value) at c.in_err-may_run.ensures in
     let out = second_out g.K.Sample.count p (map f c.args.halves.now) (map f c.args.controls.now) c.args.line _ (sym refused) in
-    record { answer = exit _ c.from-residual.ensures.1 ∙ sym out; panel = rw out refl; after = rw out refl; same = λ _. refl }
+    record { answer = exit _ c.from_residual.ensures.1 ∙ sym out; panel = rw out refl; after = rw out refl; same = λ _. refl }
 
-pub returns-in-err-check : goal.returns-in-err-check
-returns-in-err-check g c =
+pub returns-in_err-check : goal.returns-in_err-check
+returns-in_err-check g c =
     let f = g.K.Sample.parts in
     let p = c.args.self.now in
     let line = to_z-of_z w32 c.args.line c.ranges.line in
-    let ok = rw (line, c.second_lines.ensures.value) at c.in-ok-may-run.ensures in
-    let stale = rw c.first-lines-are-current.ensures at (sym c.in-err-check.ensures) in
+    let ok = rw (line, c.second_lines.ensures.value) at c.in_ok-may_run.ensures in
+    let stale = rw c.first_lines_are_current.ensures at (sym c.in_err-check.ensures) in
     let out = second_stale g.K.Sample.count p (map f c.args.halves.now) (map f c.args.controls.now) c.args.line _ (sym ok) stale in
-    record { answer = exit _ c.from-residual-in-err-check.ensures.1 ∙ sym out; panel = rw out refl; after = rw out refl; same = λ _. refl }
+    record { answer = exit _ c.from_residual-in_err-check.ensures.1 ∙ sym out; panel = rw out refl; after = rw out refl; same = λ _. refl }
 
-pub solve-parts-solved-requires : goal.solve-parts-solved-requires
-solve-parts-solved-requires g c =
+pub solve_parts-solved-requires : goal.solve_parts-solved-requires
+solve_parts-solved-requires g c =
     let f = g.K.Sample.parts in
     let p = c.args.self.now in
     let line = to_z-of_z w32 c.args.line c.ranges.line in
-    let ok = rw (line, c.second_lines.ensures.value) at c.in-ok-may-run.ensures in
+    let ok = rw (line, c.second_lines.ensures.value) at c.in_ok-may_run.ensures in
     let n = numbered f p c.args.halves.now c.args.controls.now c.args.line (second_lines p) (sym ok) in
-    let lane = rw line at c.second-lane-lane.ensures in
+    let lane = rw line at c.second_lane-lane.ensures in
     (second_within p (nat_abs c.args.line) _ _ n.long_xs lane n.on, (omega arith, (refl, zeros 256)))
 
-pub returns-in-err-store-solved : goal.returns-in-err-store-solved
-returns-in-err-store-solved g c =
+pub returns-in_err-store_solved : goal.returns-in_err-store_solved
+returns-in_err-store_solved g c =
     let f = g.K.Sample.parts in
     let p = c.args.self.now in
     let line = to_z-of_z w32 c.args.line c.ranges.line in
-    let ok = rw (line, c.second_lines.ensures.value) at c.in-ok-may-run.ensures in
+    let ok = rw (line, c.second_lines.ensures.value) at c.in_ok-may_run.ensures in
     let n = numbered f p c.args.halves.now c.args.controls.now c.args.line (second_lines p) (sym ok) in
-    let lane = rw line at c.second-lane-lane.ensures in
-    let fresh : check (all_current (first_lines p) p.first) FirstStale ≡ Ok tt = rw c.first-lines-are-current.ensures at (sym c.in-ok-check.ensures) in
+    let lane = rw line at c.second_lane-lane.ensures in
+    let fresh : check (all_current (first_lines p) p.first) FirstStale ≡ Ok tt = rw c.first_lines_are_current.ensures at (sym c.in_ok-check.ensures) in
     let no : second_answer g.K.Sample.count p (map f c.args.halves.now) (map f c.args.controls.now) c.args.line ≡ Err _ =
-    second_past g.K.Sample.count p (map f c.args.halves.now) (map f c.args.controls.now) c.args.line (sym ok) fresh ∙ sym (ap as_answer c.in-err-store-solved.ensures.answer ∙ rw line at c.solve-parts-solved.ensures.answer ∙ second_takes g.K.Sample.count p (map f c.args.halves.now) (nat_abs c.args.line) (nat_abs c.args.line) _ refl lane) in
-    record { answer = exit _ c.from-residual-in-err-store-solved.ensures.1 ∙ sym no; panel = rw no refl; after = rw no c.in-err-store-solved.ensures.after; same = λ _. c.in-err-store-solved.ensures.same refl }
+    second_past g.K.Sample.count p (map f c.args.halves.now) (map f c.args.controls.now) c.args.line (sym ok) fresh ∙ sym (ap as_answer c.in_err-store_solved.ensures.answer ∙ rw line at c.solve_parts-solved.ensures.answer ∙ second_takes g.K.Sample.count p (map f c.args.halves.now) (nat_abs c.args.line) (nat_abs c.args.line) _ refl lane) in
+    record { answer = exit _ c.from_residual-in_err-store_solved.ensures.1 ∙ sym no; panel = rw no refl; after = rw no c.in_err-store_solved.ensures.after; same = λ _. c.in_err-store_solved.ensures.same refl }
 
-pub store-solved-requires : goal.store-solved-requires
-store-solved-requires g c =
+pub store_solved-requires : goal.store_solved-requires
+store_solved-requires g c =
     let f = g.K.Sample.parts in
     let p = c.args.self.now in
     let line = to_z-of_z w32 c.args.line c.ranges.line in
-    let ok = rw (line, c.second_lines.ensures.value) at c.in-ok-may-run.ensures in
+    let ok = rw (line, c.second_lines.ensures.value) at c.in_ok-may_run.ensures in
     let n = numbered f p c.args.halves.now c.args.controls.now c.args.line (second_lines p) (sym ok) in
-    let lane = rw line at c.second-lane-lane.ensures in (
+    let lane = rw line at c.second_lane-lane.ensures in (
       second_within p (nat_abs c.args.line) _ _ n.long_ys lane n.on,
-      (omega (arith, c.solve-parts-solved.auto.fitted), λ solved. let h = c.solve-parts-solved.ensures.filled solved in (h.0, h.2)),
+      (omega (arith, c.solve_parts-solved.auto.fitted), λ solved. let h = c.solve_parts-solved.ensures.filled solved in (h.0, h.2)),
     )
 
 pub returns : goal.returns
@@ -69,17 +69,17 @@ returns g c =
     let f = g.K.Sample.parts in
     let p = c.args.self.now in
     let line = to_z-of_z w32 c.args.line c.ranges.line in
-    let ok = rw (line, c.second_lines.ensures.value) at c.in-ok-may-run.ensures in
+    let ok = rw (line, c.second_lines.ensures.value) at c.in_ok-may_run.ensures in
     let n = numbered f p c.args.halves.now c.args.controls.now c.args.line (second_lines p) (sym ok) in
-    let lane = rw line at c.second-lane-lane.ensures in
-    let fresh : check (all_current (first_lines p) p.first) FirstStale ≡ Ok tt = rw c.first-lines-are-current.ensures at (sym c.in-ok-check.ensures) in
+    let lane = rw line at c.second_lane-lane.ensures in
+    let fresh : check (all_current (first_lines p) p.first) FirstStale ≡ Ok tt = rw c.first_lines_are_current.ensures at (sym c.in_ok-check.ensures) in
     let done : second_answer g.K.Sample.count p (map f c.args.halves.now) (map f c.args.controls.now) c.args.line ≡ Ok tt =
-    second_past g.K.Sample.count p (map f c.args.halves.now) (map f c.args.controls.now) c.args.line (sym ok) fresh ∙ sym (ap as_answer c.in-ok-store-solved.ensures.answer ∙ rw line at c.solve-parts-solved.ensures.answer ∙ second_takes g.K.Sample.count p (map f c.args.halves.now) (nat_abs c.args.line) (nat_abs c.args.line) _ refl lane) in
-    let h = c.solve-parts-solved.ensures.filled (sym c.in-ok-store-solved.ensures.answer) in
+    second_past g.K.Sample.count p (map f c.args.halves.now) (map f c.args.controls.now) c.args.line (sym ok) fresh ∙ sym (ap as_answer c.in_ok-store_solved.ensures.answer ∙ rw line at c.solve_parts-solved.ensures.answer ∙ second_takes g.K.Sample.count p (map f c.args.halves.now) (nat_abs c.args.line) (nat_abs c.args.line) _ refl lane) in
+    let h = c.solve_parts-solved.ensures.filled (sym c.in_ok-store_solved.ensures.answer) in
     record {
       answer = sym done;
       panel = rw (done, ← c.graded.ensures) (rw line at c.second_ran.ensures);
-      after = rw done (c.in-ok-store-solved.ensures.after ∙ second_stored g.K.Sample.count p (map f c.args.halves.now) (nat_abs c.args.line) (nat_abs c.args.line) _ refl g.S.LineSolver.meaning (map f c.args.controls.now) c.solve-parts-solved.new.fitted
+      after = rw done (c.in_ok-store_solved.ensures.after ∙ second_stored g.K.Sample.count p (map f c.args.halves.now) (nat_abs c.args.line) (nat_abs c.args.line) _ refl g.S.LineSolver.meaning (map f c.args.controls.now) c.solve_parts-solved.new.fitted
           (length-map c.args.controls.now f ∙ n.long_ys) lane n.on h.1);
       same = λ no. absurd (false≢true no);
     }
