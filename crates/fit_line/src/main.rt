@@ -1,4 +1,5 @@
 // Fits lines: the worked ones, then those of the files that are named, or of standard input where none is.
+#![tactic(auto)]
 
 mod report;
 mod source;

@@ -1,4 +1,6 @@
 // The line solver for programs in C: `uint32_t line_eliminate(const int64_t *line, size_t n, int64_t *out, size_t room)`.
+#![tactic(auto)]
+
 ghost use Rattle.std.specs.Prelude.{◌≡◌, length};
 ghost use Rattle.line.specs.Solve.{solve_answer, solve_after};
 ghost use Rattle.line.specs.Elimination.{elimination};

@@ -1,4 +1,5 @@
 // Solves lines at the limits, of every length from 2 to 64, and holds each residual to the grade.
+#![tactic(auto)]
 
 mod lines;
 mod random;

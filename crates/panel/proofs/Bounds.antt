@@ -1,5 +1,5 @@
 -- How great points along current lines are.
-use Rattle.std.proofs.Common.{◌≡◌, ℕ, ◌≤◌, true, ℤ, pos, ◌*ℤ◌, nat_abs, arith}
+use Rattle.std.proofs.Common.{◌≡◌, ℕ, ◌≤◌, true, pos, ◌*ℤ◌, nat_abs, arith}
 use Rattle.line.specs.Line.{OnLine}
 use Rattle.line.proofs.Rules.{sized}
 use Rattle.line.proofs.Doubled.{doubled}

@@ -1,15 +1,12 @@
 -- One part more is solved into scratch.
-use Rattle.std.proofs.Common.{◌≡◌, ℕ, zero, suc, ◌+◌, ◌-◌, ◌*◌, ◌<◌, ◌≤◌, false, ◌&&◌, leb, ◌⊎◌, List, map, length, get_or, take, drop, ℤ, pos, nat_abs, Ok, Err, Result, sym, refl, ap, ◌∙◌, subst, inl, inr, arith, rules}
+use Rattle.std.proofs.Common.{◌≡◌, ℕ, ◌+◌, ◌-◌, ◌*◌, ◌<◌, ◌≤◌, false, ◌&&◌, leb, ◌⊎◌, List, length, get_or, take, drop, ℤ, pos, nat_abs, Ok, Err, sym, refl, ap, ◌∙◌, inl, inr, arith}
 use borrow.Rule.Slice.PartMut.{put_mid}
 use Rattle.std.proofs.lemmas.List.{length-take-le, length-drop}
 use Rattle.std.proofs.lemmas.Bool.{lt-leb, and_right, cases_eq, cases_lt}
-use Rattle.line.specs.declared.solver.SolveFault.{SolveFault}
 use Rattle.line.specs.declared.solver.SolveFault.TheVariants.{Length}
 use Rattle.line.specs.Solver.{Solver, Sound}
 use Rattle.line.specs.Solve.{solve_answer, solve_after}
-use Rattle.grid.specs.Checks.{if_ok}
-use Rattle.panel_fault.specs.declared.PanelFault.{PanelFault}
-use Rattle.panel.specs.Calls.{Answer, solver_took, solver_takes}
+use Rattle.panel.specs.Calls.{Answer, solver_took}
 use Rattle.panel.specs.Lane.{Filled, Narrow}
 use Rattle.panel.proofs.Passed.{took}
 use Rattle.panel.proofs.Lanes.{put_below, put_at, put_above, rule_narrow}

@@ -1,5 +1,5 @@
 -- Steps of the code that walks a lane.
-use Rattle.std.proofs.Common.{◌≡◌, ℕ, zero, suc, ◌+◌, ◌-◌, ◌*◌, ◌/◌, ◌%◌, ◌^◌, ◌<◌, ◌≤◌, List, [], ◌∷◌, ◌++◌, map, length, get_or, take, drop, set, ℤ, pos, ◌*ℤ◌, nat_abs, Ok, Err, Result, sym, refl, ap, ◌∙◌, subst, mul-le-mul, add-one, arith, w32, w64, SFits, to_z, of_z, rules}
+use Rattle.std.proofs.Common.{◌≡◌, ℕ, zero, suc, ◌+◌, ◌-◌, ◌*◌, ◌<◌, ◌≤◌, List, ◌++◌, length, get_or, take, drop, set, ℤ, pos, ◌*ℤ◌, nat_abs, Ok, Err, refl, ap, ◌∙◌, mul-le-mul, add-one, arith, w32, w64, SFits, to_z, of_z, rules}
 use borrow.Rule.Slice.PartMut.{put_mid, post_of}
 use Rattle.std.proofs.lemmas.Int.{ints, to_z-of_z}
 use Rattle.std.proofs.lemmas.List.Edits.{fill_by_more}
@@ -13,8 +13,7 @@ use Rattle.line.specs.Solver.{Solver, Sound, limit}
 use Rattle.line.proofs.Doubled.{doubled}
 use Rattle.line.proofs.Rules.{sized}
 use Rattle.line.proofs.Accepted.{accepted}
-use Rattle.grid.specs.Grid.{Grid}
-use Rattle.grid.specs.Sample.{part_of, with_part}
+use Rattle.grid.specs.Sample.{with_part}
 
 -- a factor of at most 16 keeps a part within 64 bits
 pub scaled_fits : (n : ℕ) (x : ℤ) → n ≤ 16 → SFits w32 x → SFits w64 (pos n *ℤ x)

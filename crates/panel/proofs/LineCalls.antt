@@ -1,19 +1,18 @@
 -- The line calls, from what their parts ensure to what their definitions say.
-use Rattle.std.proofs.Common.{◌≡◌, ℕ, zero, suc, ◌+◌, ◌-◌, ◌*◌, ◌<◌, ◌≤◌, Bool, true, false, cond, ◌&&◌, eqb, List, [], ◌∷◌, map, length, get_or, drop, replicate, ℤ, pos, nat_abs, Ok, Err, Result, sym, refl, ap, ◌∙◌, subst, ap₂, arith, w32, SFits, to_z, of_z, rules}
+use Rattle.std.proofs.Common.{◌≡◌, ℕ, zero, suc, ◌*◌, ◌≤◌, ◌&&◌, List, map, length, get_or, replicate, ℤ, pos, nat_abs, Ok, Err, sym, refl, ap, ◌∙◌, subst, arith}
 use mathlib.Core.Path.{fun_ext}
-use Rattle.std.proofs.lemmas.List.{length-map, drop_more, drop_all}
+use Rattle.std.proofs.lemmas.List.{length-map}
 use Rattle.std.proofs.lemmas.Bool.{eqb-true, and_parts}
 use Rattle.line.specs.Line.{OnLine}
 use Rattle.line.specs.Solver.{Solver}
-use Rattle.panel.specs.declared.record.Mark.{Mark}
 use Rattle.panel.specs.declared.lane.Lane.{Lane}
 use Rattle.panel.specs.declared.record.Panel.{Panel}
 use Rattle.panel_fault.specs.declared.PanelFault.{PanelFault}
 use Rattle.panel_fault.specs.declared.PanelFault.TheVariants.{GridLength, NoLine, FirstStale}
 use Rattle.grid.specs.Grid.{Grid}
-use Rattle.panel.specs.Calls.{Answer, between, sized, unrun, all_current, first_lines, second_lines, solver_takes, fine_line, along_second, first_fitted, second_fitted, first_answer, second_answer}
+use Rattle.panel.specs.Calls.{Answer, between, sized, all_current, first_lines, second_lines, solver_takes, fine_line, along_second, first_fitted, second_fitted, first_answer, second_answer}
 use Rattle.grid.specs.Checks.{check, then}
-use Rattle.panel.specs.Lane.{first_lane, second_lane, Inside, laned, stored, Filled, Narrow}
+use Rattle.panel.specs.Lane.{first_lane, second_lane, Inside, laned, stored, Filled}
 use Rattle.grid.proofs.Chains.{both_good, held, over, stop}
 use Rattle.panel.proofs.Passed.{between_is}
 use Rattle.panel.proofs.Stored.{first_gridded, second_gridded, first_laned, second_laned, first_inside, second_inside}

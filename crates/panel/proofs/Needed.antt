@@ -1,5 +1,5 @@
 -- The lines that a reading needs, by their marks and by the history.
-use Rattle.std.proofs.Common.{◌≡◌, ℕ, zero, suc, ◌+◌, ◌-◌, ◌*◌, ◌/◌, ◌<◌, ◌≤◌, max, Bool, true, false, ◌⊎◌, sym, refl, ap, ◌∙◌, subst, ap₂, inl, inr, add-one, arith}
+use Rattle.std.proofs.Common.{◌≡◌, ℕ, zero, suc, ◌+◌, ◌-◌, ◌*◌, ◌/◌, ◌<◌, ◌≤◌, max, true, false, sym, refl, ap, ◌∙◌, subst, ap₂, inl, inr, add-one, arith}
 use Rattle.std.proofs.lemmas.Bool.{cases_eq}
 use Rattle.surface.proofs.Below.{at_below, fails_below}
 use Rattle.line.specs.Line.{OnLine, clamped}
@@ -8,7 +8,6 @@ use Rattle.panel.specs.declared.record.Order.TheVariants.{RowsFirst, ColumnsFirs
 use Rattle.grid.specs.Grid.{Grid}
 use Rattle.panel.specs.Calls.{State, pick, first_lines, second_lines, mark}
 use Rattle.panel.specs.Reading.{needed, needed_current, greatest, tolerance}
-use Rattle.surface.specs.Patch.{all_below}
 use Rattle.panel.specs.Runs.{History, ran_since, first_grade, second_grade, first_most, second_most}
 use Rattle.panel.proofs.Fits.{on_clamped}
 use Rattle.panel.proofs.Invariant.{Invariant, few_lines}

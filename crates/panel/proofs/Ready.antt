@@ -1,5 +1,5 @@
 -- When every line can run: a line call is refused only for its number or a stale first line.
-use Rattle.std.proofs.Common.{◌≡◌, ℕ, zero, suc, ◌+◌, ◌<◌, ◌≤◌, Bool, true, false, ◌&&◌, eqb, leb, List, [], ◌∷◌, map, length, get_or, ℤ, pos, ◌*ℤ◌, nat_abs, Ok, Err, Result, sym, refl, ap, ◌∙◌, subst, ap₂, le_trans, arith}
+use Rattle.std.proofs.Common.{◌≡◌, ℕ, zero, suc, ◌+◌, ◌<◌, ◌≤◌, Bool, true, false, ◌&&◌, eqb, leb, List, [], ◌∷◌, map, length, get_or, ℤ, pos, ◌*ℤ◌, nat_abs, Ok, Err, Result, sym, refl, ap, ◌∙◌, subst, le_trans, arith}
 use Rattle.std.specs.List.{range_with_len, AllByRecursion as All}
 use Rattle.std.proofs.lemmas.List.FromFn.{length-map-range_with_len}
 use Rattle.std.proofs.ByRecursion.{All-from_get_or}
@@ -12,7 +12,7 @@ use Rattle.line.specs.declared.solver.SolveFault.TheVariants.{Beyond}
 use Rattle.panel_fault.specs.declared.PanelFault.{PanelFault}
 use Rattle.panel_fault.specs.declared.PanelFault.TheVariants.{NoLine, FirstStale, GridLength}
 use Rattle.grid.specs.Grid.{Grid}
-use Rattle.panel.specs.Calls.{Answer, between, sized, first_lines, second_lines, mark, meeting, along_second, fine_line, all_current, solver_took, solver_takes, first_answer, second_answer}
+use Rattle.panel.specs.Calls.{Answer, between, sized, first_lines, second_lines, meeting, along_second, fine_line, all_current, solver_took, solver_takes, first_answer, second_answer}
 use Rattle.grid.specs.Checks.{check, then}
 use Rattle.panel.specs.Runs.{first_refusals}
 use Rattle.panel.specs.Fit.{FirstReady, SecondReady}

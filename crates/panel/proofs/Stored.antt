@@ -1,5 +1,5 @@
 -- A lane of a grid, stored: the grid that the definitions of the line calls give.
-use Rattle.std.proofs.Common.{◌≡◌, ℕ, zero, suc, ◌+◌, ◌-◌, ◌*◌, ◌/◌, ◌%◌, ◌<◌, ◌≤◌, Bool, true, false, cond, eqb, ◌⊎◌, List, [], map, length, get_or, set, ℤ, pos, ◌*ℤ◌, sym, refl, ap, ◌∙◌, subst, ap₂, inl, inr, mul-le-mul_right, arith}
+use Rattle.std.proofs.Common.{◌≡◌, ℕ, zero, suc, ◌+◌, ◌-◌, ◌*◌, ◌/◌, ◌%◌, ◌<◌, ◌≤◌, cond, eqb, ◌⊎◌, List, [], map, length, get_or, ℤ, pos, ◌*ℤ◌, sym, refl, ap, ◌∙◌, ap₂, inl, inr, mul-le-mul_right, arith}
 use Rattle.std.specs.List.{range_with_len}
 use Rattle.std.proofs.lemmas.Nat.{div-add-mod', div_below, mod_below}
 use Rattle.std.proofs.lemmas.List.{same_lists, length-set, get_or-set_same, get_or-set_other}
@@ -14,8 +14,8 @@ use Rattle.panel.specs.declared.record.Order.TheVariants.{RowsFirst, ColumnsFirs
 use Rattle.grid.specs.Grid.{Grid, sample_at, at}
 use Rattle.grid.specs.Place.{index}
 use Rattle.grid.specs.Sample.{part_of}
-use Rattle.panel.specs.Calls.{pick, gridded, meeting, fine_line, along_second, first_lines, second_lines}
-use Rattle.panel.specs.Lane.{row_lane, column_lane, first_lane, second_lane, on_lane, Inside, laned, column, stored, Filled}
+use Rattle.panel.specs.Calls.{pick, gridded}
+use Rattle.panel.specs.Lane.{row_lane, column_lane, on_lane, Inside, laned, column, stored, Filled}
 use Rattle.panel.proofs.Places.{index_within, row_back, column_back}
 
 -- Lists counted from 0 and from 1.

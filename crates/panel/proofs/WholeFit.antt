@@ -1,31 +1,27 @@
 -- A whole fit: after the checks of make no line is refused, first lines leave half points that every second line takes.
-use Rattle.std.proofs.Common.{◌≡◌, ℕ, zero, suc, ◌+◌, ◌-◌, ◌*◌, ◌<◌, ◌≤◌, Bool, true, false, cond, ◌&&◌, ◌||◌, eqb, leb, ◌⊎◌, List, [], ◌∷◌, length, ℤ, pos, ◌*ℤ◌, nat_abs, Ok, sym, refl, ap, ◌∙◌, subst, ap₂, inl, inr, add-one, arith}
+use Rattle.std.proofs.Common.{◌≡◌, ℕ, zero, suc, ◌+◌, ◌*◌, ◌<◌, ◌≤◌, Bool, true, false, cond, ◌||◌, eqb, leb, ◌⊎◌, List, [], ◌∷◌, length, ℤ, pos, ◌*ℤ◌, nat_abs, Ok, sym, refl, ap, ◌∙◌, subst, ap₂, inl, inr, add-one, arith}
 use Rattle.std.specs.List.{AllByRecursion as All}
 use Rattle.std.proofs.lemmas.List.FromFn.{length-map-range_with_len}
 use Rattle.std.proofs.lemmas.List.{length-set}
-use Rattle.std.proofs.lemmas.Int.{ints}
-use Rattle.std.proofs.lemmas.Bool.{eqb-true, eq-eqb, le-leb, cond-true, cases_eq, or_left, or_right}
+use Rattle.std.proofs.lemmas.Bool.{eqb-true, eq-eqb, le-leb, cases_eq, or_left, or_right}
 use Rattle.std.proofs.lemmas.Bool.Decides.{nat_tests}
-use Rattle.grid.specs.Checks.{check, then, if_ok}
+use Rattle.grid.specs.Checks.{check, if_ok}
 use Rattle.grid.specs.Grid.{Grid}
 use Rattle.grid.proofs.Chains.{both_good, held, holds_good, over}
 use Rattle.line.specs.Line.{OnLine, place}
 use Rattle.line.specs.Solver.{Solver, Sound}
-use Rattle.line.proofs.Doubled.{doubled}
-use Rattle.line.proofs.Rules.{sized}
 use Rattle.surface.proofs.Below.{below_passes}
 use Rattle.panel.specs.declared.record.Panel.{Panel}
 use Rattle.panel.specs.declared.record.Mark.{Mark}
 use Rattle.panel_fault.specs.declared.PanelFault.TheVariants.{Size, NoLine, FirstStale, GridLength, PartBeyond}
-use Rattle.panel.specs.Calls.{State, Answer, part_limit, between, parts_within, grid_within, first_lines, second_lines, meeting, mark, all_current, fine_line, along_second, make_answer, first_answer, first_panel, first_halves, first_after, first_ran_panel, second_answer, second_panel, second_controls, second_after, second_ran_panel}
-use Rattle.panel.specs.Fit.{all_ran, staled, halves_fitted, controls_fitted, firsts_panel, seconds_panel, fit_answer, fit_panel, fit_halves, fit_controls, fitted_panel, fitted_halves, fitted_controls, firsts_ran, seconds_ran, fit_history, Fitted, FirstReady, SecondReady}
-use Rattle.panel.specs.Runs.{History, Reached, recorded, ran_since}
-use Rattle.panel.specs.Runs.Event.{first_ran, second_ran}
+use Rattle.panel.specs.Calls.{Answer, part_limit, between, parts_within, grid_within, first_lines, second_lines, meeting, mark, all_current, fine_line, first_answer, first_panel, first_halves, second_answer, second_panel, second_controls}
+use Rattle.panel.specs.Fit.{all_ran, halves_fitted, controls_fitted, firsts_panel, seconds_panel, fit_answer, fit_panel, fit_halves, fit_controls, fitted_panel, fitted_halves, fitted_controls, firsts_ran, seconds_ran, fit_history, Fitted, FirstReady, SecondReady}
+use Rattle.panel.specs.Runs.{History, Reached, ran_since}
 use Rattle.panel.proofs.Bounds.{fitted_low}
 use Rattle.panel.proofs.Fits.{Fits, FirstFits, refit, solver_fits, first_fitted_at}
 use Rattle.panel.proofs.Invariant.{few_lines}
 use Rattle.panel.proofs.Marked.{ran_at_current}
-use Rattle.panel.proofs.Passed.{between_is, low_grid, low_at, Low}
+use Rattle.panel.proofs.Passed.{between_is, low_grid, Low}
 use Rattle.panel.proofs.Ready.{fine_admitted, first_when, second_when, then_passed}
 use Rattle.panel.proofs.Steps.{state, moved, first_reaches, second_reaches}
 use Rattle.panel.proofs.Every.{invariant}

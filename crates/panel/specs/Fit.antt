@@ -1,5 +1,5 @@
 -- What fit answers, and what it leaves: every first line in order, and then every second line, by two solvers.
-use Rattle.std.specs.Prelude.{◌≡◌, ℕ, zero, suc, ◌*◌, ◌≤◌, true, List, ◌∷◌, length, ℤ, pos, Ok, unsigned_abs}
+use Rattle.std.specs.Prelude.{◌≡◌, ℕ, zero, suc, ◌*◌, ◌≤◌, true, List, ◌∷◌, length, pos, Ok, unsigned_abs}
 use Rattle.std.specs.List.{AllByRecursion as All}
 use Rattle.grid.specs.Checks.{if_ok}
 use Rattle.grid.specs.Grid.{Grid}

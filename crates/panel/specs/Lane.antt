@@ -1,5 +1,5 @@
 -- How the code walks a line of a grid: from a start by equal steps. Cited by inner functions alone.
-use Rattle.std.specs.Prelude.{◌≡◌, ℕ, zero, suc, ◌+◌, ◌-◌, ◌*◌, ◌<◌, ◌≤◌, List, [], map, length, get_or, ℤ, pos, ◌*ℤ◌, slice_index_or, slice_set, unsigned_abs}
+use Rattle.std.specs.Prelude.{◌≡◌, ℕ, zero, suc, ◌+◌, ◌-◌, ◌*◌, ◌<◌, ◌≤◌, List, [], map, get_or, ℤ, pos, ◌*ℤ◌, slice_index_or, slice_set, unsigned_abs}
 use Rattle.std.specs.List.{range_with_len}
 use Rattle.grid.specs.Grid.{Grid}
 use Rattle.grid.specs.Sample.{part_of}

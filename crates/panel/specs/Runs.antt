@@ -15,7 +15,7 @@ use Rattle.panel.specs.declared.record.Order.{Order}
 use Rattle.panel_fault.specs.declared.PanelFault.{PanelFault}
 use Rattle.panel_fault.specs.declared.PanelFault.TheVariants.{NoLine, FirstStale, SecondStale}
 use Rattle.panel.specs.Calls.{State, Answer, between, first_lines, second_lines, pick, make_answer, new_panel, probe_answer, probe_after, first_answer, first_after, second_answer, second_after}
-use Rattle.panel.specs.Reading.{InArea, needed, greatest}
+use Rattle.panel.specs.Reading.{needed, greatest}
 
 -- An accepted call.
 pub data Event : Type 0 where

@@ -1,4 +1,5 @@
 // Panels: samples probed on a grid, the lines fitted to them by any solver, and readings of the fitted surface with their tolerance.
+#![tactic(auto)]
 
 mod checks;
 mod fit;

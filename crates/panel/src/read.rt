@@ -1,5 +1,5 @@
 // Reading the fitted surface at a place, with the tolerance of the reading.
-ghost use Rattle.std.specs.Prelude.{◌≡◌, ℕ, ◌+◌, ◌-◌, ◌*◌, ◌<◌, ◌≤◌, map, length, pos, if◌then◌else◌, Some, None, Ok, slice_index, unsigned_abs};
+ghost use Rattle.std.specs.Prelude.{◌≡◌, ℕ, ◌+◌, ◌-◌, ◌*◌, ◌<◌, ◌≤◌, map, length, pos, cond, Some, None, Ok, slice_index, unsigned_abs};
 ghost use Rattle.std.specs.List.{range_with_len};
 ghost use Rattle.grid.specs.Checks.{check as checked, then};
 ghost use Rattle.grid.specs.Grid.{Grid, at};
@@ -50,7 +50,7 @@ impl Panel {
 
     // The checks of a reading before that of its control points.
     fn may_read<K: Sample>(&self, controls: &[K], x: i32, y: i32) -> Result<(), PanelFault>
-        ensures { result ≡ (then) (checked (sized self.now (map K.Sample.parts controls.now)) PanelFault.GridLength) ((then) (checked (in_area self.now x y) PanelFault.OutsideArea) (checked (needed_current self.now (unsigned_abs x) (unsigned_abs y)) PanelFault.SecondStale)) }
+        ensures { result ≡ then (checked (sized self.now (map K.Sample.parts controls.now)) PanelFault.GridLength) (then (checked (in_area self.now x y) PanelFault.OutsideArea) (checked (needed_current self.now (unsigned_abs x) (unsigned_abs y)) PanelFault.SecondStale)) }
     {
         check(self.is_sized(controls), PanelFault::GridLength)?;
         check(self.has_in_area(x, y), PanelFault::OutsideArea)?;
@@ -139,7 +139,7 @@ impl Panel {
         y: usize,
     ) -> Option<i32>
         requires { (length controls.now ≡ self.now.rows * self.now.columns) × (InArea self.now x y) }
-        ensures { result ≡ (if within_reach (around self.now (map K.Sample.parts controls.now) part x y) then Some (part_read self.now (map K.Sample.parts controls.now) x y part) else None) }
+        ensures { result ≡ cond (within_reach (around self.now (map K.Sample.parts controls.now) part x y)) (Some (part_read self.now (map K.Sample.parts controls.now) x y part)) None }
     {
         patch_reading(&self.patch(controls, part, x, y), x, y)
     }
@@ -147,7 +147,7 @@ impl Panel {
     // The reading as a sample: any sample of the kind, with each part replaced.
     fn reading<K: Sample>(&self, controls: &[K], x: usize, y: usize) -> Result<K, PanelFault>
         requires { (length controls.now ≡ self.now.rows * self.now.columns) × (InArea self.now x y) }
-        ensures { sample_shown K.Sample.parts result ≡ (then) (checked (needed_within K.Sample.count self.now (map K.Sample.parts controls.now) x y) PanelFault.ControlBeyond) (Ok (map (part_read self.now (map K.Sample.parts controls.now) x y) (range_with_len 1 K.Sample.count))) }
+        ensures { sample_shown K.Sample.parts result ≡ then (checked (needed_within K.Sample.count self.now (map K.Sample.parts controls.now) x y) PanelFault.ControlBeyond) (Ok (map (part_read self.now (map K.Sample.parts controls.now) x y) (range_with_len 1 K.Sample.count))) }
     {
         let mut sample = controls[0];
         for k in 0..K::part_count() {

@@ -1,5 +1,6 @@
 // The work that the benchmark counts and times: `panel_bench WORK KIND TIMES`, WORK being fit or read, KIND heights or points.
 // It prints a check sum, so that no work can be left out.
+#![tactic(auto)]
 
 mod work;
 

@@ -1,4 +1,6 @@
 // Why a panel call refuses, the numbers of the refusals, and how a solver's refusal becomes the panel's.
+#![tactic(auto)]
+
 ghost use Rattle.std.specs.Prelude.{◌≡◌};
 ghost use Rattle.panel_fault.specs.Refusal.{fault_number, as_fault};
 

@@ -1,4 +1,5 @@
 // Tests of the panel calls, in a crate of their own so that they do not have the panels' crate proved twice.
+#![tactic(auto)]
 
 #[cfg(test)]
 mod checks;

@@ -1,4 +1,5 @@
 // The surface over a grid of control points: the lines around a place, its weights, readings, and the laws of exact control grids.
+#![tactic(auto)]
 
 pub mod laws;
 pub mod patch;

@@ -1,6 +1,6 @@
 -- The four lines, by computation at each place.
-use Rattle.std.proofs.Common.{◌≡◌, ℕ, zero, suc, List, length, ℤ, pos, refl, arith}
-use Rattle.line.specs.Line.{OnLine, residual}
+use Rattle.std.proofs.Common.{ℕ, zero, suc, refl, arith}
+use Rattle.line.specs.Line.{OnLine}
 use Rattle.line.specs.FixedPoint.{fraction, nearest}
 use Rattle.line.specs.Pivot.{pivot}
 use Rattle.line.specs.Elimination.{forward, back}

@@ -1,5 +1,5 @@
 -- The two by two panel, by computation.
-use Rattle.std.proofs.Common.{◌≡◌, ℕ, zero, suc, refl, arith, lit<}
+use Rattle.std.proofs.Common.{ℕ, zero, suc, refl, arith, lit<}
 use Rattle.line.specs.Line.{OnLine}
 use Rattle.line.specs.FixedPoint.{fraction, nearest}
 use Rattle.line.specs.Pivot.{pivot}

@@ -1,5 +1,5 @@
 -- Eight worked cases: four lines, the weights, the rounding, and a panel of two by two heights with its readings.
-use Rattle.std.specs.Prelude.{◌≡◌, ℕ, ◌-◌, ◌/◌, List, [], ◌∷◌, ℤ, pos, negsuc, Ok}
+use Rattle.std.specs.Prelude.{◌≡◌, ◌-◌, ◌/◌, List, [], ◌∷◌, ℤ, pos, negsuc, Ok}
 use Rattle.grid.specs.Grid.{Grid, at}
 use Rattle.line.specs.Line.{sum_at}
 use Rattle.line.specs.Solver.{WholeSolution}

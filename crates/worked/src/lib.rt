@@ -1,4 +1,6 @@
 // Worked values of lines, weights, rounding and panels, as a proved table.
+#![tactic(auto)]
+
 ghost use Rattle.worked.specs.Worked.{LevelTwo, SlopeTwo, EndOfThree, MiddleOfThree, WeightsPastAPlace, HalvesUpward, CornerPanel, CornerReadings};
 
 // The table, one clause to a case. The function does nothing but carry it.

@@ -1,4 +1,4 @@
-use Rattle.std.proofs.Common.{◌≡◌, ◌+◌, map, drop}
+use Rattle.std.proofs.Common.{◌≡◌, map, drop}
 use Rattle.panel.specs.Calls.{grid_within}
 use Rattle.panel.proofs.checks.grid_within.Given as goal
 

@@ -1,4 +1,4 @@
-use Rattle.std.proofs.Common.{eqb, sym, ap, rules}
+use Rattle.std.proofs.Common.{eqb, sym, ap}
 use Rattle.std.proofs.lemmas.List.{length-map}
 use Rattle.panel.proofs.checks.has_length.Goals as goal
 

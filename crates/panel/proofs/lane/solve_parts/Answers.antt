@@ -1,7 +1,6 @@
-use Rattle.std.proofs.Common.{◌≡◌, ℕ, ◌+◌, ◌-◌, ◌*◌, ◌<◌, ◌≤◌, map, length, Ok, Err, Result, sym, refl, ap, ◌∙◌, arith, rules}
+use Rattle.std.proofs.Common.{◌≡◌, ℕ, ◌+◌, ◌-◌, ◌<◌, map, length, sym, refl, ap, ◌∙◌, arith, rules}
 use Rattle.std.proofs.lemmas.List.FromFn.{length-map-range_with_len}
-use Rattle.line.specs.Solve.{solve_answer}
-use Rattle.panel.specs.Calls.{solver_took, solver_takes}
+use Rattle.panel.specs.Calls.{solver_takes}
 use Rattle.panel_fault.specs.Refusal.{as_answer}
 use Rattle.panel.specs.Lane.{laned}
 use Rattle.grid.proofs.Chains.{exit}

@@ -1,6 +1,6 @@
-use Rattle.std.proofs.Common.{◌≡◌, ◌+◌, map, set, sym, refl, ap, ◌∙◌, ap₂, add-one}
+use Rattle.std.proofs.Common.{set, ◌∙◌, ap₂, add-one}
 use Rattle.std.proofs.lemmas.List.{map-set}
-use Rattle.panel.specs.Lane.{stored, on_lane, column}
+use Rattle.panel.specs.Lane.{on_lane}
 use Rattle.panel.proofs.lane.store.Goals as goal
 
 pub loop-e-preserved : goal.loop-e-preserved

@@ -1,4 +1,4 @@
-use Rattle.std.proofs.Common.{◌≡◌, ℕ, ◌+◌, Bool, sym, ap, ◌∙◌, arith}
+use Rattle.std.proofs.Common.{◌≡◌, ◌+◌, sym, ap, ◌∙◌, arith}
 use Rattle.surface.proofs.Below.{below_more, below_out}
 use Rattle.panel.specs.Calls.{mark, all_current}
 use Rattle.panel.proofs.marks.all_current.Goals as goal

@@ -1,7 +1,7 @@
-use Rattle.std.proofs.Common.{◌≡◌, map, nat_abs, Ok, Err, sym, refl, ap, ◌∙◌, w32, to_z, of_z}
+use Rattle.std.proofs.Common.{map, nat_abs, sym, ap, ◌∙◌, w32, to_z, of_z}
 use Rattle.std.proofs.lemmas.List.{length-map}
 use Rattle.grid.proofs.Chains.{exit}
-use Rattle.panel.specs.Reading.{InArea, shown, tolerance}
+use Rattle.panel.specs.Reading.{shown, tolerance}
 use Rattle.panel.proofs.Given.{given_two}
 use Rattle.panel.proofs.ReadCall.{asked, sampled, stated_all, stated_refused, read_past, read_out, read_long, read_area}
 use Rattle.panel.proofs.record.Panel.answered.Goals as goal

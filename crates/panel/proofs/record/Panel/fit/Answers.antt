@@ -1,4 +1,4 @@
-use Rattle.std.proofs.Common.{◌≡◌, ◌≤◌, map, sym, ap, ◌∙◌, arith}
+use Rattle.std.proofs.Common.{map}
 use Rattle.panel.proofs.WholeFit.{fit_reaches}
 use Rattle.panel.proofs.record.Panel.fit.Goals as goal
 

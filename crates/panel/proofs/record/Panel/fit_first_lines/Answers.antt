@@ -1,5 +1,4 @@
-use Rattle.std.proofs.Common.{◌≡◌, ℕ, ◌<◌, map, Ok, Err, sym, ap, ◌∙◌, subst, arith, w32, SFits, rules}
-use Rattle.panel.specs.Fit.{firsts_panel, halves_fitted}
+use Rattle.std.proofs.Common.{◌≡◌, ℕ, ◌<◌, map, ◌∙◌, subst, arith, w32, SFits, rules}
 use Rattle.panel.proofs.Given.{given}
 use Rattle.panel.proofs.WholeFit.{first_turn, first_turn_panel, first_turn_halves}
 use Rattle.panel.proofs.record.Panel.fit_first_lines.Goals as goal

@@ -1,5 +1,4 @@
-use Rattle.std.proofs.Common.{◌≡◌, ℕ, ◌<◌, map, Ok, Err, sym, ap, ◌∙◌, subst, arith, w32, SFits, rules}
-use Rattle.panel.specs.Fit.{seconds_panel, controls_fitted}
+use Rattle.std.proofs.Common.{◌≡◌, ℕ, ◌<◌, map, ◌∙◌, subst, arith, w32, SFits, rules}
 use Rattle.panel.proofs.Given.{given}
 use Rattle.panel.proofs.WholeFit.{second_turn, second_turn_panel, second_turn_controls}
 use Rattle.panel.proofs.record.Panel.fit_second_lines.Goals as goal

@@ -1,4 +1,4 @@
-use Rattle.std.proofs.Common.{◌≡◌, ◌≤◌, true, map, length, Ok, Err, sym, ap, ◌∙◌, subst, ap₂, subst₂, arith, rules}
+use Rattle.std.proofs.Common.{◌≡◌, ◌≤◌, true, map, length, sym, ap, ◌∙◌, subst, ap₂, subst₂, arith}
 use Rattle.std.proofs.lemmas.Bool.{false≢true}
 use Rattle.panel.specs.Calls.{first_lines, second_lines, all_current}
 use Rattle.panel.specs.Fit.{seconds_panel, controls_fitted, SecondReady}

@@ -1,4 +1,4 @@
-use Rattle.std.proofs.Common.{◌≡◌, ◌^◌, ◌<◌, map, ◌∙◌, ap₂, arith, w32, rules}
+use Rattle.std.proofs.Common.{◌<◌, map, ◌∙◌, ap₂, arith, w32, rules}
 use Rattle.std.proofs.lemmas.Int.{to_z_pos}
 use Rattle.panel.specs.Calls.{make_answer}
 use Rattle.panel.proofs.record.Panel.may_fit.Goals as goal

@@ -1,4 +1,4 @@
-use Rattle.std.proofs.Common.{◌≡◌, get_or, ap, ◌∙◌}
+use Rattle.std.proofs.Common.{get_or, ap, ◌∙◌}
 use Rattle.surface.specs.Patch.{all_below}
 use Rattle.panel.specs.Calls.{mark}
 use Rattle.panel.specs.Reading.{needed_current}

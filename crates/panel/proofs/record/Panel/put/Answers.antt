@@ -1,4 +1,4 @@
-use Rattle.std.proofs.Common.{map, nat_abs, sym, refl, ap, ◌∙◌, w32}
+use Rattle.std.proofs.Common.{map, sym, refl, ◌∙◌, w32}
 use Rattle.std.proofs.lemmas.List.{length-map, map-set}
 use Rattle.std.proofs.lemmas.Int.{to_z-of_z}
 use Rattle.grid.proofs.Chains.{exit}

@@ -1,7 +1,7 @@
-use Rattle.std.proofs.Common.{◌≡◌, ℕ, ◌+◌, ◌-◌, get_or, ap, ◌∙◌, arith}
+use Rattle.std.proofs.Common.{◌≡◌, ◌+◌, ◌-◌, get_or, ap, ◌∙◌, arith}
 use Rattle.std.proofs.lemmas.List.FromFn.{get_or-map-range_with_len}
 use Rattle.panel.specs.Calls.{mark}
-use Rattle.panel.specs.Reading.{needed, greatest}
+use Rattle.panel.specs.Reading.{needed}
 use Rattle.panel.proofs.Needed.{greatest_more}
 use Rattle.panel.proofs.record.Panel.second_grade.Goals as goal
 
