@@ -3,7 +3,7 @@ use Rattle.std.proofs.Common.{◌≡◌, ℕ, ◌+◌, ◌<◌, List, [], ◌∷
 use Rattle.std.specs.Str.Parse.{signed_digits_value}
 use Rattle.std.specs.Char.{is_whitespace, is_not_whitespace}
 use Rattle.std.specs.Str.{NoCharPasses, EmptyOrStartsWithPassing}
-use Rattle.std.specs.List.{AllByRecursion as All}
+use Rattle.std.specs.List.{AllByRecursion}
 use Rattle.std.proofs.ByRecursion.{All-append}
 use Rattle.std.proofs.lemmas.List.{map-append, length-map}
 use Rattle.fit_line.specs.declared.words.TextFault.{TextFault}
@@ -22,7 +22,7 @@ more_begins text (earlier ∷ seen) old first = (old.0, old.1, more_begins old.0
 -- the numbers are those of the words before rest
 pub record Sofar (text rest : List ℕ) (numbers : List ℤ) : Type 0 where
   pub seen : List (List ℕ)
-  pub write : All Writes seen
+  pub write : AllByRecursion Writes seen
   pub values : numbers ≡ map (signed_digits_value 10) seen
   pub begins : Begins text seen rest
 

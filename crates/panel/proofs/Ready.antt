@@ -1,6 +1,6 @@
 -- When every line can run: a line call is refused only for its number or a stale first line.
 use Rattle.std.proofs.Common.{◌≡◌, ℕ, zero, suc, ◌+◌, ◌<◌, ◌≤◌, Bool, true, false, ◌&&◌, eqb, leb, List, [], ◌∷◌, map, length, get_or, ℤ, pos, ◌*ℤ◌, nat_abs, Ok, Err, Result, sym, refl, ap, ◌∙◌, subst, le_trans, arith}
-use Rattle.std.specs.List.{range_with_len, AllByRecursion as All}
+use Rattle.std.specs.List.{range_with_len, AllByRecursion}
 use Rattle.std.proofs.lemmas.List.FromFn.{length-map-range_with_len}
 use Rattle.std.proofs.ByRecursion.{All-from_get_or}
 use Rattle.std.proofs.lemmas.Int.{ints}
@@ -21,7 +21,7 @@ use Rattle.panel.proofs.Places.{place_counted}
 use Rattle.panel.proofs.Passed.{between_is, low_at}
 use Rattle.panel.proofs.Invariant.{few_lines}
 
-none_beyond : (j : ℕ) (k : List ℤ) → All (λ x. nat_abs x ≤ limit) k → first_beyond j k ≡ Ok tt
+none_beyond : (j : ℕ) (k : List ℤ) → AllByRecursion (λ x. nat_abs x ≤ limit) k → first_beyond j k ≡ Ok tt
 none_beyond j [] h = refl
 none_beyond j (x ∷ k) h = cond-true (leb (nat_abs x) limit) (first_beyond (j + 1) k) (Err (Beyond j)) (le-leb _ _ h.0) ∙ none_beyond (j + 1) k h.1
 

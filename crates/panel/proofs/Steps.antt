@@ -1,6 +1,6 @@
 -- What a call leaves is reached, if what it was given is: from the equations of the calls' contracts.
 use Rattle.std.proofs.Common.{◌≡◌, ℕ, List, [], ◌∷◌, map, length, ℤ, nat_abs, Ok, Err, Result, sym, refl, ap, subst, ap₂, subst₂}
-use Rattle.std.specs.List.{AllByRecursion as All}
+use Rattle.std.specs.List.{AllByRecursion}
 use Rattle.line.specs.Solver.{Solver, Sound}
 use Rattle.panel.specs.declared.record.Panel.{Panel}
 use Rattle.panel.specs.declared.record.Order.{Order}
@@ -23,7 +23,7 @@ pub moved : {parts : ℕ} {m : Grid} {h h' : History} {st st' : State} → st' �
 moved {parts} {m} e f reached = subst₂ (Reached parts m) (sym e) (sym f) reached
 
 -- Samples of one kind have one number of parts.
-pub whole_grid : {K : Type 0} (f : K → List ℤ) (parts : ℕ) → ((s : K) → length (f s) ≡ parts) → (samples : List K) → All (λ v. length v ≡ parts) (map f samples)
+pub whole_grid : {K : Type 0} (f : K → List ℤ) (parts : ℕ) → ((s : K) → length (f s) ≡ parts) → (samples : List K) → AllByRecursion (λ v. length v ≡ parts) (map f samples)
 whole_grid f parts whole [] = tt
 whole_grid f parts whole (s ∷ samples) = (whole s, whole_grid f parts whole samples)
 
@@ -36,7 +36,7 @@ module _ (parts : ℕ) (rows columns : ℤ) (o : Order) (samples halves controls
       go (Ok u) ok = good ok
       go (Err x) ok = bad x
 
-  pub make_begins : All (λ v. length v ≡ parts) samples → Begins parts samples halves controls r
+  pub make_begins : AllByRecursion (λ v. length v ≡ parts) samples → Begins parts samples halves controls r
   make_begins whole = by_answer (Begins parts samples halves controls) (λ ok. make rows columns o halves controls ok whole) (λ _. tt)
 
   pub make_has_surface : HasOneSurface parts samples r

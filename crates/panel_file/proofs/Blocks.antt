@@ -1,6 +1,6 @@
 -- Lists that are made of blocks of one length.
 use Rattle.std.proofs.Common.{◌≡◌, ℕ, zero, suc, ◌+◌, ◌*◌, ◌<◌, ◌≤◌, List, [], ◌∷◌, ◌++◌, map, length, get_or, take, drop, sym, refl, ap, ◌∙◌, ap₂, arith, take-add}
-use Rattle.std.specs.List.{range_with_len, flat_map, AllByRecursion as All}
+use Rattle.std.specs.List.{range_with_len, flat_map, AllByRecursion}
 use Rattle.std.proofs.lemmas.List.{append_assoc, drop-drop, drop_at, take_at, length-append}
 
 module _ {X A : Type 0} (g : X → List A) (w : ℕ) where
@@ -18,7 +18,7 @@ module _ {X A : Type 0} (g : X → List A) (w : ℕ) where
       ∙ ap (λ m. take m (drop (at + a * w) xs)) (sym all)
 
   -- The i-th block of a list that begins with blocks.
-  pub block_at : (xs : List X) (rest : List A) (i : ℕ) (d : X) → All (λ x. length (g x) ≡ w) xs → i < length xs → take w (drop (i * w) (flat_map g xs ++ rest)) ≡ g (get_or xs i d)
+  pub block_at : (xs : List X) (rest : List A) (i : ℕ) (d : X) → AllByRecursion (λ x. length (g x) ≡ w) xs → i < length xs → take w (drop (i * w) (flat_map g xs ++ rest)) ≡ g (get_or xs i d)
   block_at [] rest i d h low = absurd (omega arith)
   block_at (x ∷ xs) rest zero d h low =
       let none : 0 * w ≡ 0 = omega arith in
@@ -30,7 +30,7 @@ module _ {X A : Type 0} (g : X → List A) (w : ℕ) where
       ∙ ap (λ l. take w (drop (i * w) l)) (ap (drop w) (append_assoc (g x) (flat_map g xs) rest) ∙ drop_at (g x) (flat_map g xs ++ rest) w h.0)
       ∙ block_at xs rest i d h.1 (omega arith)
 
-  pub length_joined : (xs : List X) → All (λ x. length (g x) ≡ w) xs → length (flat_map g xs) ≡ length xs * w
+  pub length_joined : (xs : List X) → AllByRecursion (λ x. length (g x) ≡ w) xs → length (flat_map g xs) ≡ length xs * w
   length_joined [] h = let none : 0 * w ≡ 0 = omega arith in sym none
   length_joined (x ∷ xs) h = omega (arith, length-append (g x) (flat_map g xs), length_joined xs h.1, h.0)
 

@@ -1,6 +1,6 @@
 -- An accepted file is the encoding of what is read from it.
 use Rattle.std.proofs.Common.{◌≡◌, ℕ, ◌+◌, ◌*◌, ◌<◌, ◌≤◌, List, [], ◌∷◌, ◌++◌, length, get_or, take, drop, nat_abs, sym, ap, ◌∙◌, subst, ap₂, zero-add, arith}
-use Rattle.std.specs.List.{range_with_len, flat_map, AllByRecursion as All}
+use Rattle.std.specs.List.{range_with_len, flat_map, AllByRecursion}
 use Rattle.std.proofs.lemmas.Nat.{mul-add-lt}
 use Rattle.std.proofs.lemmas.List.FromFn.{length-range_with_len, get_or-range_with_len, length-map-range_with_len}
 use Rattle.std.proofs.ByRecursion.{All-from_get_or, All-map}
@@ -25,7 +25,7 @@ decode file =
     }
 
 -- What holds of each number below n holds of all that are counted.
-everywhere : {P : ℕ → Type 0} {n : ℕ} → ((i : ℕ) → i < n → P i) → All P (range_with_len 0 n)
+everywhere : {P : ℕ → Type 0} {n : ℕ} → ((i : ℕ) → i < n → P i) → AllByRecursion P (range_with_len 0 n)
 everywhere {P} {n} h =
     All-from_get_or P (range_with_len 0 n) 0 (λ i low. let same : get_or (range_with_len 0 n) i 0 ≡ i = get_or-range_with_len 0 n i 0 (omega (arith, length-range_with_len 0 n)) ∙ zero-add i in subst P (sym same) (h i (omega (arith, length-range_with_len 0 n))))
 
@@ -119,7 +119,7 @@ module _ (file : List ℕ) (bytes : (at : ℕ) → byte_at file at < 256) (a : A
         parts_fit = a.parts_fit;
         samples_fill = length-map-range_with_len (λ i. parts_at file P (7 + i * (P * 4))) 0 R;
         samples_have_parts = All-map (λ sample. length sample ≡ P) (λ i. parts_at file P (7 + i * (P * 4))) (range_with_len 0 R) (everywhere (λ i _. length-map-range_with_len (λ k. part_at file (7 + i * (P * 4) + k * 4)) 0 P));
-        samples_within = All-map (All (λ part. nat_abs part ≤ 100000)) (λ i. parts_at file P (7 + i * (P * 4))) (range_with_len 0 R) (everywhere (λ i low. All-map (λ part. nat_abs part ≤ 100000) (λ k. part_at file (7 + i * (P * 4) + k * 4)) (range_with_len 0 P) (everywhere (λ k part. (part_there i k low part).1))));
+        samples_within = All-map (AllByRecursion (λ part. nat_abs part ≤ 100000)) (λ i. parts_at file P (7 + i * (P * 4))) (range_with_len 0 R) (everywhere (λ i low. All-map (λ part. nat_abs part ≤ 100000) (λ k. part_at file (7 + i * (P * 4) + k * 4)) (range_with_len 0 P) (everywhere (λ k part. (part_there i k low part).1))));
         name_short = omega (arith, name_length, a.name_short);
         name_printable = All-from_get_or (λ byte. (32 ≤ byte) × (byte ≤ 126)) name 0 (λ k low. printable k (omega (arith, name_length)));
       }

@@ -1,6 +1,6 @@
 -- The encoding of contents within the limits is accepted, and just these contents are read from it.
 use Rattle.std.proofs.Common.{◌≡◌, ℕ, ◌+◌, ◌*◌, ◌<◌, ◌≤◌, List, [], ◌∷◌, ◌++◌, length, get_or, take, drop, ℤ, pos, nat_abs, sym, refl, ap, ◌∙◌, ap₂, arith}
-use Rattle.std.specs.List.{flat_map, AllByRecursion as All}
+use Rattle.std.specs.List.{flat_map, AllByRecursion}
 use Rattle.std.proofs.lemmas.Nat.{mul-add-lt}
 use Rattle.std.proofs.lemmas.List.FromFn.{length-map-range_with_len, get_or-map-range_with_len}
 use Rattle.std.proofs.ByRecursion.{All-get_or, All-append}
@@ -13,7 +13,7 @@ use Rattle.panel_file.proofs.Blocks.{block_at, length_joined, joined_joined}
 use Rattle.panel_file.proofs.Decoded.{decode}
 use Rattle.panel_file.proofs.Numbers.{count_back, word, part_back}
 
-all_joined : {X : Type 0} (P : X → Type 0) (xss : List (List X)) → All (All P) xss → All P (flat_map (λ xs. xs) xss)
+all_joined : {X : Type 0} (P : X → Type 0) (xss : List (List X)) → AllByRecursion (AllByRecursion P) xss → AllByRecursion P (flat_map (λ xs. xs) xss)
 all_joined P [] h = tt
 all_joined P (xs ∷ xss) h = All-append P xs (flat_map (λ xs. xs) xss) h.0 (all_joined P xss h.1)
 
@@ -41,7 +41,7 @@ module _ (c : Contents) (v : Valid c) where
   flat_length : length flat ≡ R * P
   flat_length = length_joined (λ sample. sample) P c.samples v.samples_have_parts ∙ ap (λ n. n * P) v.samples_fill
 
-  flat_within : All (λ part. nat_abs part ≤ 100000) flat
+  flat_within : AllByRecursion (λ part. nat_abs part ≤ 100000) flat
   flat_within = all_joined (λ part. nat_abs part ≤ 100000) c.samples v.samples_within
 
   flat_at : (i k : ℕ) → i < R → k < P → get_or flat (i * P + k) (pos 0) ≡ get_or (get_or c.samples i []) k (pos 0)
@@ -53,7 +53,7 @@ module _ (c : Contents) (v : Valid c) where
   after_7 : drop 7 file ≡ flat_map part_bytes flat ++ N
   after_7 = ap (λ l. l ++ N) (sym (joined_joined part_bytes (λ sample. sample) c.samples))
 
-  four_bytes : (xs : List ℤ) → All (λ part. length (part_bytes part) ≡ 4) xs
+  four_bytes : (xs : List ℤ) → AllByRecursion (λ part. length (part_bytes part) ≡ 4) xs
   four_bytes [] = tt
   four_bytes (x ∷ xs) = (refl, four_bytes xs)
 
