@@ -1,5 +1,5 @@
 -- How the code walks a line of a grid: from a start by equal steps. Cited by inner functions alone.
-use Rattle.std.specs.Prelude.{◌≡◌, ℕ, zero, suc, ◌+◌, ◌-◌, ◌*◌, ◌<◌, ◌≤◌, List, [], map, get_or, ℤ, pos, ◌*ℤ◌, slice_index_or, slice_set, unsigned_abs}
+use Rattle.std.specs.Prelude.{◌≡◌, ℕ, zero, suc, ◌+◌, ◌-◌, ◌*◌, ◌<◌, ◌≤◌, List, [], map, ℤ, pos, ◌*ℤ◌, slice_index_or, slice_set, unsigned_abs}
 use Rattle.std.specs.List.{range_with_len}
 use Rattle.grid.specs.Grid.{Grid}
 use Rattle.grid.specs.Sample.{part_of}
@@ -35,7 +35,7 @@ laned scale g l part = map (λ e. pos scale *ℤ part_of (slice_index_or g (on_l
 
 -- Solved lines lie one after another, 64 numbers for each part: the parts at entry e.
 abbrev pub column : ℕ → List ℤ → ℕ → List ℤ
-column parts fitted e = map (λ q. get_or fitted (q * 64 + e) (pos 0)) (range_with_len 0 parts)
+column parts fitted e = map (λ q. slice_index_or fitted (q * 64 + e) (pos 0)) (range_with_len 0 parts)
 
 -- Numbers that a solver may answer fit a part.
 abbrev pub Narrow : List ℤ → Type 0

@@ -2,7 +2,7 @@
 --   offset 0: count 3 | 2: rows | 3: columns | 4: parts
 --   offset 5: count rows x columns | 7: the parts of the samples, row by row, four bytes each
 --   then: count of the name's bytes | the name | the end of the file
-use Rattle.std.specs.Prelude.{ℕ, ◌+◌, ◌*◌, Bool, ◌&&◌, ◌||◌, leb, List, length, drop, ℤ, ◌==◌, nat_eq, nat_le, unsigned_abs}
+use Rattle.std.specs.Prelude.{ℕ, ◌+◌, ◌*◌, Bool, ◌&&◌, ◌||◌, List, length, drop, ℤ, ◌==◌, nat_le, unsigned_abs}
 use Rattle.grid.specs.Checks.{check, then}
 use Rattle.grid.specs.declared.size.GridSize.{GridSize}
 use Rattle.panel_file.specs.declared.refusal.FileFault.TheVariants.{WrongCount, WrongParts, WrongSize, PartBeyond, BytesLeftOver, WrongNameByte}
@@ -28,7 +28,7 @@ printable b = nat_le 32 b && nat_le b 126
 -- Section 1, and what its fields say.
 abbrev pub sizes_answer : List ℕ → Answer
 sizes_answer file =
-    then (field file Sizes WrongCount 2 (λ here. nat_eq (count_at file here) 3) 0)
+    then (field file Sizes WrongCount 2 (λ here. count_at file here == 3) 0)
     (then (field file Sizes WrongSize 1 (λ here. size_fits (byte_at file here)) 2)
     (then (field file Sizes WrongSize 1 (λ here. size_fits (byte_at file here)) 3)
     (field file Sizes WrongParts 1 (λ here. parts_fit (byte_at file here)) 4)))
@@ -48,7 +48,7 @@ parts_from file count at = fields file Samples PartBeyond 4 (λ here. part_fits 
 -- Section 2.
 abbrev pub samples_answer : List ℕ → GridSize → ℕ → Answer
 samples_answer file size parts =
-    then (field file Samples WrongCount 2 (λ here. nat_eq (count_at file here) (size.rows * size.columns)) 5)
+    then (field file Samples WrongCount 2 (λ here. count_at file here == size.rows * size.columns) 5)
     (parts_from file (size.rows * size.columns * parts) 7)
 
 -- The offset at which section 2 ends.
@@ -62,7 +62,7 @@ name_from file count at = fields file Name WrongNameByte 1 (λ here. printable (
 -- Section 3, whose count stands at an offset; nothing may follow it.
 abbrev pub name_answer : List ℕ → ℕ → Answer
 name_answer file at =
-    then (field file Name WrongCount 2 (λ here. leb (count_at file here) 40) at)
+    then (field file Name WrongCount 2 (λ here. nat_le (count_at file here) 40) at)
     (then (name_from file (count_at file at) (at + 2))
     (check (length file == at + 2 + count_at file at) (refused BytesLeftOver Name (at + 2 + count_at file at))))
 

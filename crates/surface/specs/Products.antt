@@ -1,5 +1,5 @@
 -- Four numbers with four weights, for the sums of a reading.
-use Rattle.std.specs.Prelude.{ℕ, ◌<◌, ◌≤◌, List, get_or, ℤ, pos, ◌*ℤ◌, slice_index_or, unsigned_abs}
+use Rattle.std.specs.Prelude.{ℕ, ◌<◌, ◌≤◌, List, ℤ, pos, ◌*ℤ◌, slice_index_or, unsigned_abs}
 use Rattle.surface.specs.Surface.{four}
 
 -- Each of the four lies within m either way.
@@ -12,4 +12,4 @@ products_of w v = four (λ b. slice_index_or w b (pos 0) *ℤ v b)
 
 -- The same of a list.
 abbrev pub products : List ℤ → List ℤ → ℤ
-products w v = products_of w (λ b. get_or v b (pos 0))
+products w v = products_of w (λ b. slice_index_or v b (pos 0))

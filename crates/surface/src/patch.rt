@@ -1,6 +1,6 @@
 // One place of the surface: the lines around it, its weights, and the reading of its sixteen control points.
 // Places are in 32nds of the way from one row or column to the next, with row 1 and column 1 at 32.
-ghost use Rattle.std.specs.Prelude.{◌≡◌, ℕ, ◌+◌, ◌-◌, ◌*◌, ◌%◌, ◌^◌, ◌<◌, ◌≤◌, max, true, leb, [], pos, ◌+ℤ◌, ◌-ℤ◌, ◌*ℤ◌, nat_le, slice_index, slice_index_or, unsigned_abs};
+ghost use Rattle.std.specs.Prelude.{◌≡◌, ℕ, ◌+◌, ◌-◌, ◌*◌, ◌%◌, ◌^◌, ◌<◌, ◌≤◌, max, true, [], pos, ◌+ℤ◌, ◌-ℤ◌, ◌*ℤ◌, nat_le, slice_index, slice_index_or, unsigned_abs};
 ghost use Rattle.line.specs.Line.{clamped};
 ghost use Rattle.surface.specs.Surface.{weight, F, floored, rounded, tolerance_of};
 ghost use Rattle.surface.specs.Products.{Low, products, products_of};
@@ -107,7 +107,7 @@ fn within(point: i32) -> bool
 
 // Whether all four points of a row are.
 fn row_within(row: &[i32; 4]) -> bool
-    ensures { result ≡ all_below 4 (λ b. leb (unsigned_abs (slice_index_or row.now b (pos 0))) reach) }
+    ensures { result ≡ all_below 4 (λ b. nat_le (unsigned_abs (slice_index_or row.now b (pos 0))) reach) }
 {
     within(row[3]) && within(row[2]) && within(row[1]) && within(row[0])
 }
