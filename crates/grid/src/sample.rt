@@ -11,7 +11,7 @@ pub trait Sample: Copy {
 
     ghost count: { ℕ };
 
-    // PARTS, for code above the trait: no clause can name an associated constant.
+    // PARTS, for code above the trait.
     fn part_count() -> usize
         ensures { result ≡ count };
 

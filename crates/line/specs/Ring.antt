@@ -1,6 +1,6 @@
 -- Equations between sums, differences and products of whole numbers with a sign.
 -- Each variable is written as the difference of two naturals; `simp ring` brings either side to one difference, and `omega` multiplies out:
---     law a b = rw (parts a, parts b) (simp ring (same-dif _ _ _ _ (omega arith)))
+--     law a b = rw (parts a, parts b) (simp ring (same_dif _ _ _ _ (omega arith)))
 -- A product may come to 64 monomials in the two parts of each variable, so a cube of a sum is too much for one call.
 use Rattle.std.specs.Prelude.{◌≡◌, ℕ, ◌+◌, ◌*◌, ℤ, pos, ◌+ℤ◌, ◌-ℤ◌, ◌*ℤ◌, neg_ℤ}
 use Rattle.std.proofs.Common.{arith, ap, ap₂, ◌∙◌}

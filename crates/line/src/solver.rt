@@ -36,7 +36,7 @@ impl SolveFault {
 
 // A line solver: a fixed rule from lines to lines, with residuals between -GRADE and GRADE.
 pub trait LineSolver {
-    // The grade. A clause cannot name it: each `graded` answers it, and that it is 1 to 12 is said of `meaning`.
+    // The grade. Each `graded` answers it, and that it is 1 to 12 is said of `meaning`.
     const GRADE: u8;
 
     // The rule and the grade.

@@ -32,7 +32,7 @@ module _ (parts : ℕ) (m : Grid) (st : State) (h : History) (inv : Invariant pa
       let b = both_good (check (between line 1 (first_lines p)) NoLine) (solver_takes n 1 parts (fine_line p st.samples n)) a.1 in
       let on : OnLine (first_lines p) n = between_is line 1 (first_lines p) (held _ _ b.0) in
       let few = few_lines p inv.rows_within inv.columns_within in
-      let in-marks : OnLine (length p.first) n = omega (arith, inv.first_long) in
+      let in_marks : OnLine (length p.first) n = omega (arith, inv.first_long) in
       record {
         rows_within = inv.rows_within;
         columns_within = inv.columns_within;
@@ -44,9 +44,9 @@ module _ (parts : ℕ) (m : Grid) (st : State) (h : History) (inv : Invariant pa
         samples_held = inv.samples_held;
         first_long = length-set p.first (n - 1) _ ∙ inv.first_long;
         second_long = length-map p.second let_go ∙ inv.second_long;
-        first_graded = λ i on_i. ran_at_grade p.first n i by.grade in-marks on_i.0 ∙ ap (cond (eqb n i) by.grade) (inv.first_graded i on_i);
+        first_graded = λ i on_i. ran_at_grade p.first n i by.grade in_marks on_i.0 ∙ ap (cond (eqb n i) by.grade) (inv.first_graded i on_i);
         second_graded = λ j on_j. ap (λ k. k.grade) (mark_stale p.second j) ∙ inv.second_graded j on_j;
-        first_current = λ i on_i. ran_at_current p.first n i by.grade in-marks on_i.0 ∙ ap (λ b. eqb n i || b) (inv.first_current i on_i);
+        first_current = λ i on_i. ran_at_current p.first n i by.grade in_marks on_i.0 ∙ ap (λ b. eqb n i || b) (inv.first_current i on_i);
         first_small = λ i. small (eqb n i) by.grade (first_grade h i) sound.graded.1 (inv.first_small i);
         second_small = inv.second_small;
         second_current = λ j on_j. ap (λ k. k.current) (mark_stale p.second j);
@@ -57,7 +57,7 @@ module _ (parts : ℕ) (m : Grid) (st : State) (h : History) (inv : Invariant pa
             refit (second_lines p) (eqb n i) _ x (meeting p st.halves part i) (k i) by.grade (first_grade h i)
             (λ j on_j. first_fitted_at parts p by n part i j on_part on_i on_j st.samples st.halves)
             (λ e. subst (λ i. Fits (second_lines p) x (k i) by.grade) (eqb-true n i e) fresh)
-            (λ e. inv.first_fit i on_i (subst (λ b. (b || (mark p.first i).current) ≡ true) e (sym (ran_at_current p.first n i by.grade in-marks on_i.0) ∙ current)) part on_part);
+            (λ e. inv.first_fit i on_i (subst (λ b. (b || (mark p.first i).current) ≡ true) e (sym (ran_at_current p.first n i by.grade in_marks on_i.0) ∙ current)) part on_part);
         all_first = λ j _ ran. never ran;
         second_fit = λ j _ ran. never ran;
       }

@@ -6,14 +6,14 @@ use Rattle.line.specs.Line.{OnLine}
 use Rattle.surface.proofs.Below.{at_below}
 use Rattle.panel.specs.declared.record.Mark.{Mark}
 use Rattle.panel.specs.Calls.{unrun, mark, let_go, stale, stale_at, ran_at, all_current}
-use Rattle.panel.proofs.Places.{get_d_set}
+use Rattle.panel.proofs.Places.{get_or-set}
 
 before_same : (i j : ℕ) → 1 ≤ i → 1 ≤ j → eqb (j - 1) (i - 1) ≡ eqb i j
 before_same i j p q = grind (arith, nat_tests)
 
 pub mark_set : (ks : List Mark) (i j : ℕ) (v : Mark) → OnLine (length ks) i → 1 ≤ j → mark (set ks (i - 1) v) j ≡ cond (eqb i j) v (mark ks j)
 mark_set ks i j v on h =
-    get_d_set ks (i - 1) (j - 1) v unrun (omega arith) ∙ ap (λ b. cond b v (mark ks j)) (before_same i j on.0 h)
+    get_or-set ks (i - 1) (j - 1) v unrun (omega arith) ∙ ap (λ b. cond b v (mark ks j)) (before_same i j on.0 h)
 
 stale_from : (ks : List Mark) (k : ℕ) → get_or (stale ks) k unrun ≡ let_go (get_or ks k unrun)
 stale_from [] k = refl

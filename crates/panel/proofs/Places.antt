@@ -33,8 +33,8 @@ sample_gridded p f r s on_r on_s =
     ∙ ap₂ f (row_back p.columns r s on_r.0 on_s) (column_back p.columns r s on_r.0 on_s)
 
 -- A list with one element changed.
-pub get_d_set : {X : Type 0} (xs : List X) (i j : ℕ) (v d : X) → i < length xs → get_or (set xs i v) j d ≡ cond (eqb j i) v (get_or xs j d)
-get_d_set xs i j v d h = go (cases_eq j i)
+pub get_or-set : {X : Type 0} (xs : List X) (i j : ℕ) (v d : X) → i < length xs → get_or (set xs i v) j d ≡ cond (eqb j i) v (get_or xs j d)
+get_or-set xs i j v d h = go (cases_eq j i)
   where
     go : (j ≡ i) ⊎ (j ≡ i → ⊥) → get_or (set xs i v) j d ≡ cond (eqb j i) v (get_or xs j d)
     go (inl e) = ap (λ j. get_or (set xs i v) j d) e ∙ get_or-set_same xs i v d h ∙ sym (cond-true (eqb j i) v (get_or xs j d) (eq-eqb j i e))
@@ -53,7 +53,7 @@ pub sample_set : (rows columns : ℕ) (g : Grid) (r' s' r s : ℕ) (new : List �
     OnLine rows r' → OnLine columns s' → OnLine rows r → OnLine columns s →
     sample_at columns (set g (index columns r' s') new) r s ≡ cond (eqb r r' && eqb s s') new (sample_at columns g r s)
 sample_set rows columns g r' s' r s new long on_r' on_s' on_r on_s =
-    get_d_set g (index columns r' s') (index columns r s) new [] (omega (arith, index_within rows columns r' s' on_r' on_s'))
+    get_or-set g (index columns r' s') (index columns r s) new [] (omega (arith, index_within rows columns r' s' on_r' on_s'))
     ∙ ap (λ b. cond b new (sample_at columns g r s)) (index_same columns r' s' r s on_r'.0 on_s' on_r.0 on_s)
 
 -- The place where first line i and second line j meet.

@@ -60,7 +60,7 @@ module _ (parts : ℕ) (m : Grid) (st : State) (h : History) (inv : Invariant pa
       let few = few_lines p inv.rows_within inv.columns_within in
       let line = first_of p r s in
       let on_line = on_first p r s on_r on_s in
-      let in-marks : OnLine (length p.first) line = omega (arith, inv.first_long) in
+      let in_marks : OnLine (length p.first) line = omega (arith, inv.first_long) in
       let same = λ (r' s' : ℕ) (on_r' : OnLine p.rows r') (on_s' : OnLine p.columns s'). sample_set p.rows p.columns st.samples r s r' s' new inv.samples_long on_r on_s on_r' on_s' in
       record {
         rows_within = inv.rows_within;
@@ -73,14 +73,14 @@ module _ (parts : ℕ) (m : Grid) (st : State) (h : History) (inv : Invariant pa
         samples_held = λ part r' s' on_r' on_s'. ap (λ v. part_of v part) (same r' s' on_r' on_s') ∙ part_held (eqb r' r && eqb s' s) new _ part _ (inv.samples_held part r' s' on_r' on_s');
         first_long = length-set p.first (line - 1) _ ∙ inv.first_long;
         second_long = length-map p.second let_go ∙ inv.second_long;
-        first_graded = λ i on_i. stale_at_grade p.first line i in-marks on_i.0 ∙ inv.first_graded i on_i;
+        first_graded = λ i on_i. stale_at_grade p.first line i in_marks on_i.0 ∙ inv.first_graded i on_i;
         second_graded = λ j on_j. ap (λ k. k.grade) (mark_stale p.second j) ∙ inv.second_graded j on_j;
-        first_current = λ i on_i. stale_at_current p.first line i in-marks on_i.0 ∙ ap (λ b. not (eqb line i) && b) (inv.first_current i on_i);
+        first_current = λ i on_i. stale_at_current p.first line i in_marks on_i.0 ∙ ap (λ b. not (eqb line i) && b) (inv.first_current i on_i);
         first_small = inv.first_small;
         second_small = inv.second_small;
         second_current = λ j on_j. ap (λ k. k.current) (mark_stale p.second j);
         first_fit = λ i on_i current part on_part.
-            let t = and_parts (not (eqb line i)) (mark p.first i).current (sym (stale_at_current p.first line i in-marks on_i.0) ∙ current) in
+            let t = and_parts (not (eqb line i)) (mark p.first i).current (sym (stale_at_current p.first line i in_marks on_i.0) ∙ current) in
             fits_same (second_lines p) (meeting p st.halves part i) (meeting p st.halves part i) (λ j. pos 16 *ℤ meeting p st.samples part i j) _ _ (λ j on_j. refl)
             (λ j on_j. let meet = meets p i j on_i on_j in
             ap (λ v. pos 16 *ℤ part_of v part) (same _ _ meet.0 meet.1 ∙ cond-false _ new _ (elsewhere p.order r s i j (not-true _ t.0))))

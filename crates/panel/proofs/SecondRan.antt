@@ -33,7 +33,7 @@ module _ (parts : ℕ) (m : Grid) (st : State) (h : History) (inv : Invariant pa
       let c = both_good (check (all_current (first_lines p) p.first) FirstStale) (solver_takes n 1 parts (λ part. along_second p st.halves part n)) b.1 in
       let on : OnLine (second_lines p) n = between_is line 1 (second_lines p) (held _ _ b.0) in
       let few = few_lines p inv.rows_within inv.columns_within in
-      let in-marks : OnLine (length p.second) n = omega (arith, inv.second_long) in
+      let in_marks : OnLine (length p.second) n = omega (arith, inv.second_long) in
       record {
         rows_within = inv.rows_within;
         columns_within = inv.columns_within;
@@ -46,11 +46,11 @@ module _ (parts : ℕ) (m : Grid) (st : State) (h : History) (inv : Invariant pa
         first_long = inv.first_long;
         second_long = length-set p.second (n - 1) _ ∙ inv.second_long;
         first_graded = inv.first_graded;
-        second_graded = λ j on_j. ran_at_grade p.second n j by.grade in-marks on_j.0 ∙ ap (cond (eqb n j) by.grade) (inv.second_graded j on_j);
+        second_graded = λ j on_j. ran_at_grade p.second n j by.grade in_marks on_j.0 ∙ ap (cond (eqb n j) by.grade) (inv.second_graded j on_j);
         first_current = inv.first_current;
         first_small = inv.first_small;
         second_small = λ j. small (eqb n j) by.grade (second_grade h j) sound.graded.1 (inv.second_small j);
-        second_current = λ j on_j. ran_at_current p.second n j by.grade in-marks on_j.0 ∙ ap (λ b. eqb n j || b) (inv.second_current j on_j);
+        second_current = λ j on_j. ran_at_current p.second n j by.grade in_marks on_j.0 ∙ ap (λ b. eqb n j || b) (inv.second_current j on_j);
         first_fit = inv.first_fit;
         all_first = λ j on_j ran i on_i. each_current (first_lines p) p.first i (held _ _ c.0) on_i;
         second_fit = λ j on_j ran part on_part.

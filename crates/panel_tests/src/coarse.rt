@@ -16,9 +16,9 @@ impl LineSolver for Coarse {
     ghost meaning = { coarse };
 
     ghost sound = { record {
-      graded = (omega arith, omega arith);
+      graded = (Prim.omega arith, Prim.omega arith);
       long = (Eliminated.sound).long;
-      near = λ k admitted j on. omega (arith, (Eliminated.sound).near k admitted j on);
+      near = λ k admitted j on. Prim.omega (arith, (Eliminated.sound).near k admitted j on);
     } };
 
     fn graded() -> u8 {
