@@ -38,7 +38,7 @@ fn show_pass<K: Sample>(
 // The greatest distance of a reading's parts from 16 times those of a sample.
 fn distance<K: Sample>(reading: &K, sample: &K) -> u64 {
     let mut greatest = 0;
-    for k in 0..K::part_count() {
+    for k in 0..K::PARTS {
         let part = k.wrapping_add(1);
         let away = i64::from(reading.part(part)) - 16 * i64::from(sample.part(part));
         greatest = away.unsigned_abs().max(greatest);
@@ -80,7 +80,7 @@ fn show_samples<K: Sample>(
 
 // The sample with its last part moved by half a millimetre, toward 0 or away from it, so that it stays within the limit.
 fn moved<K: Sample>(old: &K) -> K {
-    let last = K::part_count();
+    let last = K::PARTS;
     let part = old.part(last);
     let new = if part > 0 { part - 500 } else { part + 500 };
     old.replace_part(last, new)

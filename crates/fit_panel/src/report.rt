@@ -27,7 +27,7 @@ pub(crate) fn show_file_refusal(rt: &HostRuntime, refusal: FileRefusal) -> io::R
 pub(crate) fn show_sample<K: Sample>(rt: &HostRuntime, sample: &K) -> io::Result<()> {
     let first = sample.part(1);
     print!(rt; "{first}")?;
-    for k in 1..K::part_count() {
+    for k in 1..K::PARTS {
         let part = sample.part(k.wrapping_add(1));
         print!(rt; " {part}")?;
     }

@@ -5,11 +5,6 @@ use Rattle.std.specs.Prelude.{Bool, cond, Ok, Err, Result}
 abbrev pub check : {E : Type 0} → Bool → E → Result (Unit {0}) E
 check holds refusal = cond holds (Ok tt) (Err refusal)
 
--- What follows an answer, unless that is a refusal.
-abbrev pub then : {A B E : Type 0} → Result A E → Result B E → Result B E
-then (Ok _) next = next
-then (Err refusal) next = Err refusal
-
 -- The new value if the answer is good, the old one if it is a refusal.
 abbrev pub if_ok : {A B E : Type 0} → Result A E → B → B → B
 if_ok (Ok _) new old = new

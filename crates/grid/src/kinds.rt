@@ -19,17 +19,13 @@ pub struct Point {
 impl Sample for Height {
     const PARTS: usize = 1;
 
-    ghost parts = { λ h. h.0 ∷ [] };
+    ghost PARTS = { 1 };
 
-    ghost count = { 1 };
+    ghost parts = { λ h. h.0 ∷ [] };
 
     ghost counted = { Prim.search rules };
 
     ghost determined = { Prim.search rules };
-
-    fn part_count() -> usize {
-        Self::PARTS
-    }
 
     fn part(&self, k: usize) -> i32 {
         if k == 1 { self.0 } else { 0 }
@@ -43,17 +39,13 @@ impl Sample for Height {
 impl Sample for Point {
     const PARTS: usize = 3;
 
-    ghost parts = { λ p. p.across ∷ p.along ∷ p.up ∷ [] };
+    ghost PARTS = { 3 };
 
-    ghost count = { 3 };
+    ghost parts = { λ p. p.across ∷ p.along ∷ p.up ∷ [] };
 
     ghost counted = { Prim.search rules };
 
     ghost determined = { Prim.search rules };
-
-    fn part_count() -> usize {
-        Self::PARTS
-    }
 
     fn part(&self, k: usize) -> i32 {
         match k {

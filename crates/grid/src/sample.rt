@@ -3,17 +3,13 @@ ghost use Rattle.std.specs.Prelude.{◌≡◌, ℕ, ◌≤◌, List, length, ℤ
 ghost use Rattle.grid.specs.Sample.{part_of, with_part, Fits32};
 
 pub trait Sample: Copy {
-    // How many parts each sample of the kind has. Each `part_count` answers it; that it is 1 to 4 is said of `count`.
+    // How many parts each sample of the kind has.
     const PARTS: usize;
 
-    // The parts of a sample, and how many each sample of the kind has.
+    ghost PARTS: { ℕ };
+
+    // The parts of a sample.
     ghost parts: { Self → List ℤ };
-
-    ghost count: { ℕ };
-
-    // PARTS, for code above the trait.
-    fn part_count() -> usize
-        ensures { result ≡ count };
 
     // Part k, and 0 if there is none.
     fn part(&self, k: usize) -> i32
@@ -24,7 +20,7 @@ pub trait Sample: Copy {
     fn replace_part(&self, k: usize, v: i32) -> Self
         ensures { parts result ≡ with_part (parts self.now) k v };
 
-    ghost counted: { (1 ≤ count) × (count ≤ 4) × ((s : Self) → length (parts s) ≡ count) };
+    ghost counted: { (1 ≤ PARTS) × (PARTS ≤ 4) × ((s : Self) → length (parts s) ≡ PARTS) };
 
     // A sample is nothing beside its parts.
     ghost determined: { (s t : Self) → parts s ≡ parts t → s ≡ t };

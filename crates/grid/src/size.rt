@@ -21,17 +21,15 @@ impl GridSize {
     pub fn count(self) -> usize
         ensures { result ≡ self.rows * self.columns }
     {
-        self.rows as usize * self.columns as usize
+        usize::from(self.rows) * usize::from(self.columns)
     }
 
     // Whether the grid has the place.
     fn has(self, place: Place) -> bool
         ensures { result ≡ on_grid self place }
     {
-        1 <= place.row
-            && place.row <= self.rows as usize
-            && 1 <= place.column
-            && place.column <= self.columns as usize
+        (1..=usize::from(self.rows)).contains(&place.row)
+            && (1..=usize::from(self.columns)).contains(&place.column)
     }
 
     // Where a row and a column stand that the grid has.
@@ -39,7 +37,7 @@ impl GridSize {
         requires { on_grid self place ≡ true }
         ensures { result ≡ index self.columns place.row place.column }
     {
-        (place.row - 1) * self.columns as usize + (place.column - 1)
+        (place.row - 1) * usize::from(self.columns) + (place.column - 1)
     }
 
     // The index of a place, counted from 0: the place that stands there is this one.
@@ -59,7 +57,7 @@ impl GridSize {
         requires { index < self.rows * self.columns }
         ensures { result ≡ place_at self index }
     {
-        let columns = self.columns as usize;
+        let columns = usize::from(self.columns);
         Place {
             row: index / columns + 1,
             column: index % columns + 1,

@@ -1,6 +1,7 @@
 -- On a panel that calls have reached no solver refuses.
 use Rattle.std.proofs.Common.{◌≡◌, ℕ, zero, suc, ◌+◌, ◌<◌, Bool, ◌&&◌, ℤ, refl, ap, ◌∙◌, ap₂, arith}
-use Rattle.grid.specs.Checks.{check, then}
+use Rattle.std.specs.Result.{result_and}
+use Rattle.grid.specs.Checks.{check}
 use Rattle.grid.specs.Grid.{Grid}
 use Rattle.surface.specs.Patch.{all_below}
 use Rattle.panel_fault.specs.declared.PanelFault.TheVariants.{NoLine, FirstStale}
@@ -49,4 +50,4 @@ module _ (parts : ℕ) (m : Grid) (st : State) (h : History) (reached : Reached 
   pub second_accepted : (j : ℤ) → second_answer parts st.panel st.halves st.controls j ≡ second_refusals st.panel h j
   second_accepted j =
       second_when parts st.panel st.halves st.controls second_ready j
-      ∙ ap (λ b. then (check (between j 1 (second_lines st.panel)) NoLine) (check b FirstStale)) all_current_is
+      ∙ ap (λ b. result_and (check (between j 1 (second_lines st.panel)) NoLine) (check b FirstStale)) all_current_is

@@ -4,6 +4,7 @@ use Rattle.std.specs.List.{range_with_len}
 use Rattle.std.proofs.lemmas.Int.{ints}
 use Rattle.std.proofs.lemmas.Bool.{le-leb, eq-eqb}
 use Rattle.std.proofs.lemmas.Bool.Decides.{nat_tests}
+use Rattle.std.specs.Result.{result_and}
 use Rattle.line.specs.Line.{OnLine, clamped, sum_at}
 use Rattle.surface.specs.Surface.{ExactGrid, Near, patch_sum}
 use Rattle.line.specs.Doubled.{doubled_crosses}
@@ -19,7 +20,7 @@ use Rattle.panel_fault.specs.declared.PanelFault.TheVariants.{OutsideArea, Secon
 use Rattle.grid.specs.Grid.{Grid, at}
 use Rattle.grid.specs.Sample.{part_of}
 use Rattle.panel.specs.Calls.{State, sized, pick, first_lines, second_lines, meeting}
-use Rattle.grid.specs.Checks.{check, then}
+use Rattle.grid.specs.Checks.{check}
 use Rattle.panel.specs.Reading.{InArea, in_area, needed, needed_current, needed_within, around, reading, tolerance, read_answer, shown}
 use Rattle.panel.specs.Runs.{History, Reached, held, ran_since, first_grade, first_most, second_most, Faithful, ReadsFaithfully, OneSurface}
 use Rattle.panel.proofs.Places.{meets}
@@ -163,7 +164,7 @@ read_law parts m st h x y reached area =
     answer : Result (List ℤ × ℕ) PanelFault
     answer = Ok (map (reading p st.controls x y) (range_with_len 1 parts), tolerance p x y)
 
-    decide : (b : Bool) → needed_current p x y ≡ b → owed (then (check b SecondStale) (then (check (needed_within parts p st.controls x y) ControlBeyond) answer))
+    decide : (b : Bool) → needed_current p x y ≡ b → owed (result_and (check b SecondStale) (result_and (check (needed_within parts p st.controls x y) ControlBeyond) answer))
     decide false e = (refl, needed_stale parts m st h inv x y e)
     decide true e =
         let ran = needed_ran parts m st h inv x y e in

@@ -3,6 +3,7 @@ use Rattle.std.proofs.Common.{◌≡◌, ℕ, zero, suc, ◌*◌, ◌≤◌, ◌
 use mathlib.Core.Path.{fun_ext}
 use Rattle.std.proofs.lemmas.List.{length-map}
 use Rattle.std.proofs.lemmas.Bool.{eqb-true, and_parts}
+use Rattle.std.specs.Result.{result_and}
 use Rattle.line.specs.Line.{OnLine}
 use Rattle.line.specs.Solver.{Solver}
 use Rattle.panel.specs.declared.lane.Lane.{Lane}
@@ -11,14 +12,14 @@ use Rattle.panel_fault.specs.declared.PanelFault.{PanelFault}
 use Rattle.panel_fault.specs.declared.PanelFault.TheVariants.{GridLength, NoLine, FirstStale}
 use Rattle.grid.specs.Grid.{Grid}
 use Rattle.panel.specs.Calls.{Answer, between, sized, all_current, first_lines, second_lines, solver_takes, fine_line, along_second, first_fitted, second_fitted, first_answer, second_answer}
-use Rattle.grid.specs.Checks.{check, then}
+use Rattle.grid.specs.Checks.{check}
 use Rattle.panel.specs.Lane.{first_lane, second_lane, Inside, laned, stored, Filled}
 use Rattle.grid.proofs.Chains.{both_good, held, over, stop}
 use Rattle.panel.proofs.Passed.{between_is}
 use Rattle.panel.proofs.Stored.{first_gridded, second_gridded, first_laned, second_laned, first_inside, second_inside}
 
 -- Three checks one after another, the first two taken as one.
-pub then_after : (a b next : Answer) → then a (then b next) ≡ then (then a b) next
+pub then_after : (a b next : Answer) → result_and a (result_and b next) ≡ result_and (result_and a b) next
 then_after (Ok u) b next = refl
 then_after (Err e) b next = refl
 
@@ -30,7 +31,7 @@ zeros (suc n) (suc q) = zeros n q
 
 -- The checks before the solver's own.
 abbrev pub asked : Panel → Grid → Grid → ℤ → ℕ → Answer
-asked p xs ys v lines = then (check (sized p xs && sized p ys) GridLength) (check (between v 1 lines) NoLine)
+asked p xs ys v lines = result_and (check (sized p xs && sized p ys) GridLength) (check (between v 1 lines) NoLine)
 
 pub record Numbered {K : Type 0} (p : Panel) (xs ys : List K) (v : ℤ) (lines : ℕ) : Type 0 where
   pub on : OnLine lines (nat_abs v)

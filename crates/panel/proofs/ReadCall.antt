@@ -2,7 +2,8 @@
 use Rattle.std.proofs.Common.{◌≡◌, ℕ, ◌+◌, ◌-◌, ◌*◌, ◌<◌, Bool, true, false, cond, List, map, length, ℤ, nat_abs, Some, None, Ok, Err, Result, sym, refl, ap, ◌∙◌, arith, rules}
 use Rattle.std.specs.List.{range_with_len}
 use Rattle.std.proofs.lemmas.Bool.{eqb-true, and_parts}
-use Rattle.grid.specs.Checks.{check, then}
+use Rattle.std.specs.Result.{result_and}
+use Rattle.grid.specs.Checks.{check}
 use Rattle.grid.specs.Grid.{Grid}
 use Rattle.grid.proofs.Chains.{both_good, held, over, stop, passed_by, refused_by}
 use Rattle.surface.specs.Patch.{within_reach}
@@ -40,16 +41,16 @@ module _ (p : Panel) (g : Grid) (x y k : ℕ) where
 -- All parts of a reading, and with the tolerance.
 module _ (parts : ℕ) (p : Panel) (g : Grid) (u v : ℕ) where
   abbrev pub sampled : Result (List ℤ) PanelFault
-  sampled = then (check (needed_within parts p g u v) ControlBeyond) (Ok (map (reading p g u v) (range_with_len 1 parts)))
+  sampled = result_and (check (needed_within parts p g u v) ControlBeyond) (Ok (map (reading p g u v) (range_with_len 1 parts)))
 
   abbrev pub stated : Result (List ℤ × ℕ) PanelFault
-  stated = then (check (needed_within parts p g u v) ControlBeyond) (Ok (map (reading p g u v) (range_with_len 1 parts), tolerance p u v))
+  stated = result_and (check (needed_within parts p g u v) ControlBeyond) (Ok (map (reading p g u v) (range_with_len 1 parts), tolerance p u v))
 
   pub sampled_all : (s : List ℤ) → needed_within parts p g u v ≡ true → s ≡ map (reading p g u v) (range_with_len 1 parts) → Ok s ≡ sampled
-  sampled_all s within is = ap Ok is ∙ sym (ap (λ b. then (check b ControlBeyond) (Ok (map (reading p g u v) (range_with_len 1 parts)))) within)
+  sampled_all s within is = ap Ok is ∙ sym (ap (λ b. result_and (check b ControlBeyond) (Ok (map (reading p g u v) (range_with_len 1 parts)))) within)
 
   pub sampled_beyond : needed_within parts p g u v ≡ false → Err ControlBeyond ≡ sampled
-  sampled_beyond beyond = sym (ap (λ b. then (check b ControlBeyond) (Ok (map (reading p g u v) (range_with_len 1 parts)))) beyond)
+  sampled_beyond beyond = sym (ap (λ b. result_and (check b ControlBeyond) (Ok (map (reading p g u v) (range_with_len 1 parts)))) beyond)
 
   pub stated_all : (s : List ℤ) (t : ℕ) → Ok s ≡ sampled → t ≡ tolerance p u v → Ok (s, t) ≡ stated
   stated_all s t is_s is_t =
@@ -63,14 +64,14 @@ module _ (parts : ℕ) (p : Panel) (g : Grid) (u v : ℕ) where
 -- The checks before that.
 module _ (p : Panel) (g : Grid) (x y : ℤ) where
   abbrev pub asked : Answer
-  asked = then (check (sized p g) GridLength) (then (check (in_area p x y) OutsideArea) (check (needed_current p (nat_abs x) (nat_abs y)) SecondStale))
+  asked = result_and (check (sized p g) GridLength) (result_and (check (in_area p x y) OutsideArea) (check (needed_current p (nat_abs x) (nat_abs y)) SecondStale))
 
-  regrouped : {A : Type 0} (a b c : Answer) (next : Result A PanelFault) → then a (then b (then c next)) ≡ then (then a (then b c)) next
+  regrouped : {A : Type 0} (a b c : Answer) (next : Result A PanelFault) → result_and a (result_and b (result_and c next)) ≡ result_and (result_and a (result_and b c)) next
   regrouped (Ok _) (Ok _) c next = refl
   regrouped (Ok _) (Err e) c next = refl
   regrouped (Err e) b c next = refl
 
-  is_stated : (parts : ℕ) → read_answer parts p g x y ≡ then asked (stated parts p g (nat_abs x) (nat_abs y))
+  is_stated : (parts : ℕ) → read_answer parts p g x y ≡ result_and asked (stated parts p g (nat_abs x) (nat_abs y))
   is_stated parts =
       regrouped (check (sized p g) GridLength) (check (in_area p x y) OutsideArea) (check (needed_current p (nat_abs x) (nat_abs y)) SecondStale) (stated parts p g (nat_abs x) (nat_abs y))
 

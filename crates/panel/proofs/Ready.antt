@@ -5,6 +5,7 @@ use Rattle.std.proofs.lemmas.List.FromFn.{length-map-range_with_len}
 use Rattle.std.proofs.ByRecursion.{All-from_get_or}
 use Rattle.std.proofs.lemmas.Int.{ints}
 use Rattle.std.proofs.lemmas.Bool.{cond-true, le-leb, eq-eqb, and_from, false≢true}
+use Rattle.std.specs.Result.{result_and}
 use Rattle.line.specs.Line.{OnLine}
 use Rattle.line.specs.Solver.{Admitted, limit}
 use Rattle.line.specs.Solve.{solve_answer, first_beyond}
@@ -13,7 +14,7 @@ use Rattle.panel_fault.specs.declared.PanelFault.{PanelFault}
 use Rattle.panel_fault.specs.declared.PanelFault.TheVariants.{NoLine, FirstStale, GridLength}
 use Rattle.grid.specs.Grid.{Grid}
 use Rattle.panel.specs.Calls.{Answer, between, sized, first_lines, second_lines, meeting, along_second, fine_line, all_current, solver_took, solver_takes, first_answer, second_answer}
-use Rattle.grid.specs.Checks.{check, then}
+use Rattle.grid.specs.Checks.{check}
 use Rattle.panel.specs.Runs.{first_refusals}
 use Rattle.panel.specs.Fit.{FirstReady, SecondReady}
 use Rattle.panel.specs.declared.record.Panel.{Panel}
@@ -33,7 +34,7 @@ takes k t =
 all_take : (line k n : ℕ) (lines : ℕ → List ℤ) → ((part : ℕ) → k ≤ part → part < k + n → Admitted (lines part)) → solver_takes line k n lines ≡ Ok tt
 all_take line k zero lines h = refl
 all_take line k (suc n) lines h =
-    ap (λ a. then (solver_took line k a) (solver_takes line (k + 1) n lines)) (takes (lines k) (h k (omega arith) (omega arith)))
+    ap (λ a. result_and (solver_took line k a) (solver_takes line (k + 1) n lines)) (takes (lines k) (h k (omega arith) (omega arith)))
     ∙ all_take line (k + 1) n lines (λ part low high. h part (omega arith) (omega arith))
 
 -- A line made from a function with values within the range.
@@ -57,15 +58,15 @@ fine_admitted p samples halves ready i part =
     (λ j on. sixteen_low (meeting p samples part i j) (low_at p.columns samples part _ _ ready.samples_low))
 
 -- checks that are passed, and checks that follow one
-pub then_passed : {A : Type 0} (b : Bool) (e : PanelFault) (next : Result A PanelFault) → b ≡ true → then (check b e) next ≡ next
+pub then_passed : {A : Type 0} (b : Bool) (e : PanelFault) (next : Result A PanelFault) → b ≡ true → result_and (check b e) next ≡ next
 then_passed true e next h = refl
 then_passed false e next h = absurd (false≢true h)
 
-then_same : (b : Bool) (e : PanelFault) (next next' : Answer) → (b ≡ true → next ≡ next') → then (check b e) next ≡ then (check b e) next'
+then_same : (b : Bool) (e : PanelFault) (next next' : Answer) → (b ≡ true → next ≡ next') → result_and (check b e) next ≡ result_and (check b e) next'
 then_same true e next next' h = h refl
 then_same false e next next' h = refl
 
-then_last : (b : Bool) (e : PanelFault) (next : Answer) → (b ≡ true → next ≡ Ok tt) → then (check b e) next ≡ check b e
+then_last : (b : Bool) (e : PanelFault) (next : Answer) → (b ≡ true → next ≡ Ok tt) → result_and (check b e) next ≡ check b e
 then_last true e next h = h refl
 then_last false e next h = refl
 
@@ -79,7 +80,7 @@ first_when parts p samples halves ready i =
 
 -- Half points that are low once all first lines are current let every second line run then.
 pub second_when : (parts : ℕ) (p : Panel) (halves controls : Grid) → SecondReady parts p halves controls → (j : ℤ) →
-    second_answer parts p halves controls j ≡ then (check (between j 1 (second_lines p)) NoLine) (check (all_current (first_lines p) p.first) FirstStale)
+    second_answer parts p halves controls j ≡ result_and (check (between j 1 (second_lines p)) NoLine) (check (all_current (first_lines p) p.first) FirstStale)
 second_when parts p halves controls ready j =
     let few = few_lines p ready.rows_within ready.columns_within in
     let along = λ (part : ℕ). along_second p halves part (nat_abs j) in

@@ -1,6 +1,7 @@
 -- What a call leaves is reached, if what it was given is: from the equations of the calls' contracts.
 use Rattle.std.proofs.Common.{◌≡◌, ℕ, List, [], ◌∷◌, map, length, ℤ, nat_abs, Ok, Err, Result, sym, refl, ap, subst, ap₂, subst₂}
 use Rattle.std.specs.List.{AllByRecursion}
+use Rattle.std.specs.Result.{result_and}
 use Rattle.line.specs.Solver.{Solver, Sound}
 use Rattle.panel.specs.declared.record.Panel.{Panel}
 use Rattle.panel.specs.declared.record.Order.{Order}
@@ -8,7 +9,7 @@ use Rattle.panel_fault.specs.declared.PanelFault.{PanelFault}
 use Rattle.panel_fault.specs.declared.PanelFault.TheVariants.{Size}
 use Rattle.grid.specs.Grid.{Grid, at}
 use Rattle.panel.specs.Calls.{State, Answer, between, make_answer, make_result, new_panel, probe_answer, probe_panel, probe_samples, first_answer, first_panel, first_halves, second_answer, second_panel, second_controls}
-use Rattle.grid.specs.Checks.{check, then}
+use Rattle.grid.specs.Checks.{check}
 use Rattle.panel.specs.Runs.{History, recorded, Reached, Begins, HasOneSurface, OneSurface}
 use Rattle.grid.proofs.Chains.{both_good, held}
 use Rattle.panel.proofs.Passed.{between_is}
@@ -32,7 +33,7 @@ module _ (parts : ℕ) (rows columns : ℤ) (o : Order) (samples halves controls
   by_answer : (P : Result Panel PanelFault → Type 0) → (make_answer rows columns samples halves controls ≡ Ok tt → P (Ok (new_panel rows columns o))) → ((x : PanelFault) → P (Err x)) → P r
   by_answer P good bad = subst P (sym e) (go (make_answer rows columns samples halves controls) refl)
     where
-      go : (a : Answer) → make_answer rows columns samples halves controls ≡ a → P (then a (Ok (new_panel rows columns o)))
+      go : (a : Answer) → make_answer rows columns samples halves controls ≡ a → P (result_and a (Ok (new_panel rows columns o)))
       go (Ok u) ok = good ok
       go (Err x) ok = bad x
 

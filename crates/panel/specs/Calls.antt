@@ -1,7 +1,8 @@
 -- What make, probe, first line and second line answer, check by check in order, and what they leave in the panel and the grids.
 use Rattle.std.specs.Prelude.{ℕ, zero, suc, ◌+◌, ◌-◌, ◌*◌, ◌/◌, ◌%◌, Bool, true, false, cond, ◌&&◌, List, [], ◌∷◌, map, length, replicate, ℤ, pos, ◌*ℤ◌, Ok, Err, Result, ◌==◌, int_le, nat_le, nat_lt, slice_index_or, slice_set, unsigned_abs}
 use Rattle.std.specs.List.{range_with_len}
-use Rattle.grid.specs.Checks.{check, then, if_ok}
+use Rattle.std.specs.Result.{result_and}
+use Rattle.grid.specs.Checks.{check, if_ok}
 use Rattle.grid.specs.Place.{index}
 use Rattle.grid.specs.Grid.{Grid, at, sample_at}
 use Rattle.line.specs.Line.{place}
@@ -82,12 +83,12 @@ sized p g = length g == p.rows * p.columns
 -- No part of a sample, counted from k, lies beyond the limit; else the first that does, with its place.
 abbrev pub parts_within : ℕ → ℕ → ℕ → List ℤ → Answer
 parts_within r s k [] = Ok tt
-parts_within r s k (v ∷ vs) = then (check (nat_le (unsigned_abs v) part_limit) (PartBeyond r s k)) (parts_within r s (k + 1) vs)
+parts_within r s k (v ∷ vs) = result_and (check (nat_le (unsigned_abs v) part_limit) (PartBeyond r s k)) (parts_within r s (k + 1) vs)
 
 -- The same over a grid from its k-th sample on, row by row.
 abbrev pub grid_within : ℕ → ℕ → Grid → Answer
 grid_within columns k [] = Ok tt
-grid_within columns k (v ∷ g) = then (parts_within (k / columns + 1) (k % columns + 1) 1 v) (grid_within columns (k + 1) g)
+grid_within columns k (v ∷ g) = result_and (parts_within (k / columns + 1) (k % columns + 1) 1 v) (grid_within columns (k + 1) g)
 
 -- A solver's answer on one part of a line, as the panel's.
 abbrev pub solver_took : ℕ → ℕ → Result (Unit {0}) SolveFault → Answer
@@ -98,7 +99,7 @@ solver_took line part (Err e) = Err (SolverRefused line part e)
 abbrev pub solver_takes : ℕ → ℕ → ℕ → (ℕ → List ℤ) → Answer
 solver_takes line k zero lines = Ok tt
 solver_takes line k (suc left) lines =
-    then (solver_took line k (solve_answer (lines k) (length (lines k)))) (solver_takes line (k + 1) left lines)
+    result_and (solver_took line k (solve_answer (lines k) (length (lines k)))) (solver_takes line (k + 1) left lines)
 
 -- Marks
 
@@ -133,11 +134,11 @@ ran_at ks i g = slice_set ks (i - 1) (record { grade = g; current = true })
 
 abbrev pub make_answer : ℤ → ℤ → Grid → Grid → Grid → Answer
 make_answer m n samples halves controls =
-    then (check (between m least_size greatest_size) Size)
-    (then (check (between n least_size greatest_size) Size)
-    (then (check (length samples == unsigned_abs m * unsigned_abs n) GridLength)
-    (then (check (length halves == unsigned_abs m * unsigned_abs n) GridLength)
-    (then (check (length controls == unsigned_abs m * unsigned_abs n) GridLength)
+    result_and (check (between m least_size greatest_size) Size)
+    (result_and (check (between n least_size greatest_size) Size)
+    (result_and (check (length samples == unsigned_abs m * unsigned_abs n) GridLength)
+    (result_and (check (length halves == unsigned_abs m * unsigned_abs n) GridLength)
+    (result_and (check (length controls == unsigned_abs m * unsigned_abs n) GridLength)
     (grid_within (unsigned_abs n) 0 samples)))))
 
 -- A panel that was just made: no line has run.
@@ -145,15 +146,15 @@ abbrev pub new_panel : ℤ → ℤ → Order → Panel
 new_panel m n o = record { rows = unsigned_abs m; columns = unsigned_abs n; order = o; probes = 0; first = replicate 64 unrun; second = replicate 64 unrun }
 
 abbrev pub make_result : ℤ → ℤ → Order → Grid → Grid → Grid → Result Panel PanelFault
-make_result m n o samples halves controls = then (make_answer m n samples halves controls) (Ok (new_panel m n o))
+make_result m n o samples halves controls = result_and (make_answer m n samples halves controls) (Ok (new_panel m n o))
 
 -- Probe
 
 abbrev pub probe_answer : Panel → Grid → ℤ → ℤ → List ℤ → Answer
 probe_answer p samples row column new =
-    then (check (sized p samples) GridLength)
-    (then (check (between row 1 p.rows && between column 1 p.columns) Place)
-    (then (parts_within (unsigned_abs row) (unsigned_abs column) 1 new)
+    result_and (check (sized p samples) GridLength)
+    (result_and (check (between row 1 p.rows && between column 1 p.columns) Place)
+    (result_and (parts_within (unsigned_abs row) (unsigned_abs column) 1 new)
     (check (nat_lt p.probes probe_limit) TooManyProbes)))
 
 -- The panel after an accepted probe: one more is counted, the first line through the place is stale, and every second line.
@@ -179,8 +180,8 @@ fine_line p samples i part = map (λ j. pos 16 *ℤ meeting p samples part i j) 
 
 abbrev pub first_answer : ℕ → Panel → Grid → Grid → ℤ → Answer
 first_answer parts p samples halves i =
-    then (check (sized p samples && sized p halves) GridLength)
-    (then (check (between i 1 (first_lines p)) NoLine)
+    result_and (check (sized p samples && sized p halves) GridLength)
+    (result_and (check (between i 1 (first_lines p)) NoLine)
     (solver_takes (unsigned_abs i) 1 parts (fine_line p samples (unsigned_abs i))))
 
 -- The half points after an accepted call, at one place and all: the solver's rule on that line, part by part.
@@ -216,9 +217,9 @@ along_second p g part j = map (λ i. meeting p g part i j) (range_with_len 1 (fi
 
 abbrev pub second_answer : ℕ → Panel → Grid → Grid → ℤ → Answer
 second_answer parts p halves controls j =
-    then (check (sized p halves && sized p controls) GridLength)
-    (then (check (between j 1 (second_lines p)) NoLine)
-    (then (check (all_current (first_lines p) p.first) FirstStale)
+    result_and (check (sized p halves && sized p controls) GridLength)
+    (result_and (check (between j 1 (second_lines p)) NoLine)
+    (result_and (check (all_current (first_lines p) p.first) FirstStale)
     (solver_takes (unsigned_abs j) 1 parts (λ part. along_second p halves part (unsigned_abs j)))))
 
 -- The control points after an accepted call, at one place and all.

@@ -1,7 +1,8 @@
 -- What read answers at x along the rows' numbering and y along the columns', in 32nds: row 1 is x = 32.
 use Rattle.std.specs.Prelude.{ℕ, zero, suc, ◌+◌, ◌-◌, ◌*◌, ◌<◌, ◌≤◌, max, Bool, ◌&&◌, List, map, ℤ, Ok, Err, Result, unsigned_abs}
 use Rattle.std.specs.List.{range_with_len}
-use Rattle.grid.specs.Checks.{check, then}
+use Rattle.std.specs.Result.{result_and}
+use Rattle.grid.specs.Checks.{check}
 use Rattle.grid.specs.Grid.{Grid, at}
 use Rattle.surface.specs.Surface.{line_around, patch_sum, rounded, tolerance_of}
 use Rattle.surface.specs.Patch.{all_below, within_reach}
@@ -50,10 +51,10 @@ tolerance p x y =
 -- The checks in their order, then the parts of the reading and the tolerance.
 abbrev pub read_answer : ℕ → Panel → Grid → ℤ → ℤ → Result (List ℤ × ℕ) PanelFault
 read_answer parts p controls x y =
-    then (check (sized p controls) GridLength)
-    (then (check (in_area p x y) OutsideArea)
-    (then (check (needed_current p (unsigned_abs x) (unsigned_abs y)) SecondStale)
-    (then (check (needed_within parts p controls (unsigned_abs x) (unsigned_abs y)) ControlBeyond)
+    result_and (check (sized p controls) GridLength)
+    (result_and (check (in_area p x y) OutsideArea)
+    (result_and (check (needed_current p (unsigned_abs x) (unsigned_abs y)) SecondStale)
+    (result_and (check (needed_within parts p controls (unsigned_abs x) (unsigned_abs y)) ControlBeyond)
     (Ok (map (reading p controls (unsigned_abs x) (unsigned_abs y)) (range_with_len 1 parts), tolerance p (unsigned_abs x) (unsigned_abs y))))))
 
 -- A sample of any kind in an answer, by its parts.

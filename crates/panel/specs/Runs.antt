@@ -3,7 +3,8 @@
 -- left, each line call with a solver of its own. The steps are what the contracts of the calls themselves promise.
 use Rattle.std.specs.Prelude.{◌≡◌, ℕ, ◌+◌, ◌-◌, ◌*◌, ◌<◌, ◌≤◌, Bool, true, false, cond, not, ◌&&◌, ◌||◌, List, [], ◌∷◌, length, ℤ, pos, ◌-ℤ◌, ◌*ℤ◌, IfOk, Ok, Err, Result, MatchResult, ◌==◌, unsigned_abs}
 use Rattle.std.specs.List.{AllByRecursion}
-use Rattle.grid.specs.Checks.{check, then}
+use Rattle.std.specs.Result.{result_and}
+use Rattle.grid.specs.Checks.{check}
 use Rattle.grid.specs.Grid.{Grid, at}
 use Rattle.grid.specs.Sample.{part_of}
 use Rattle.line.specs.Line.{OnLine, sum_at}
@@ -131,4 +132,4 @@ first_refusals p i = check (between i 1 (first_lines p)) NoLine
 -- A second line is refused only for its number, or if a first line has not run since the last accepted probe in it.
 abbrev pub second_refusals : Panel → History → ℤ → Answer
 second_refusals p h j =
-    then (check (between j 1 (second_lines p)) NoLine) (check (all_below (first_lines p) (λ i. first_ran_since p.order h (i + 1))) FirstStale)
+    result_and (check (between j 1 (second_lines p)) NoLine) (check (all_below (first_lines p) (λ i. first_ran_since p.order h (i + 1))) FirstStale)

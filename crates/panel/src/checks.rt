@@ -36,7 +36,7 @@ pub(crate) fn parts_within<K: Sample>(
 ) -> Result<(), PanelFault>
     ensures { result ≡ parts_within row column 1 (K.Sample.parts sample.now) }
 {
-    for k in 0..K::part_count() {
+    for k in 0..K::PARTS {
         let within = is_within(sample.part(k + 1));
         if !within {
             return Err(PanelFault::PartBeyond {

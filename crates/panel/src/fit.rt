@@ -52,7 +52,7 @@ impl Panel {
         requires { FirstReady self.old (map K.Sample.parts samples.now) (map K.Sample.parts halves.old) }
         ensures answer { result ≡ Ok tt }
         ensures panel { self.new ≡ firsts_panel self.old S.LineSolver.meaning (first_lines self.old) }
-        ensures after { map K.Sample.parts halves.new ≡ halves_fitted K.Sample.count self.old S.LineSolver.meaning (map K.Sample.parts samples.now) (map K.Sample.parts halves.old) (first_lines self.old) }
+        ensures after { map K.Sample.parts halves.new ≡ halves_fitted K.Sample.PARTS self.old S.LineSolver.meaning (map K.Sample.parts samples.now) (map K.Sample.parts halves.old) (first_lines self.old) }
     {
         for i in 0..self.first_lines() {
             self.first_line(samples, halves, line_number(i), solver)?;
@@ -67,10 +67,10 @@ impl Panel {
         controls: &mut [K],
         solver: &S,
     ) -> Result<(), PanelFault>
-        requires { (SecondReady K.Sample.count self.old (map K.Sample.parts halves.now) (map K.Sample.parts controls.old)) × (all_current (first_lines self.old) self.old.first ≡ true) }
+        requires { (SecondReady K.Sample.PARTS self.old (map K.Sample.parts halves.now) (map K.Sample.parts controls.old)) × (all_current (first_lines self.old) self.old.first ≡ true) }
         ensures answer { result ≡ Ok tt }
         ensures panel { self.new ≡ seconds_panel self.old S.LineSolver.meaning (second_lines self.old) }
-        ensures after { map K.Sample.parts controls.new ≡ controls_fitted K.Sample.count self.old S.LineSolver.meaning (map K.Sample.parts halves.now) (map K.Sample.parts controls.old) (second_lines self.old) }
+        ensures after { map K.Sample.parts controls.new ≡ controls_fitted K.Sample.PARTS self.old S.LineSolver.meaning (map K.Sample.parts halves.now) (map K.Sample.parts controls.old) (second_lines self.old) }
     {
         for j in 0..self.second_lines() {
             self.second_line(halves, controls, line_number(j), solver)?;
@@ -89,8 +89,8 @@ impl Panel {
     ) -> Result<(), PanelFault>
         ensures answer { result ≡ fit_answer self.old (map K.Sample.parts samples.now) (map K.Sample.parts halves.old) (map K.Sample.parts controls.old) }
         ensures panel { self.new ≡ fit_panel self.old S.LineSolver.meaning T.LineSolver.meaning (map K.Sample.parts samples.now) (map K.Sample.parts halves.old) (map K.Sample.parts controls.old) }
-        ensures halves { map K.Sample.parts halves.new ≡ fit_halves K.Sample.count self.old S.LineSolver.meaning (map K.Sample.parts samples.now) (map K.Sample.parts halves.old) (map K.Sample.parts controls.old) }
-        ensures controls { map K.Sample.parts controls.new ≡ fit_controls K.Sample.count self.old S.LineSolver.meaning T.LineSolver.meaning (map K.Sample.parts samples.now) (map K.Sample.parts halves.old) (map K.Sample.parts controls.old) }
+        ensures halves { map K.Sample.parts halves.new ≡ fit_halves K.Sample.PARTS self.old S.LineSolver.meaning (map K.Sample.parts samples.now) (map K.Sample.parts halves.old) (map K.Sample.parts controls.old) }
+        ensures controls { map K.Sample.parts controls.new ≡ fit_controls K.Sample.PARTS self.old S.LineSolver.meaning T.LineSolver.meaning (map K.Sample.parts samples.now) (map K.Sample.parts halves.old) (map K.Sample.parts controls.old) }
         ensures same { is_err result ≡ true → (halves.new ≡ halves.old) × (controls.new ≡ controls.old) }
     {
         self.may_fit(samples, halves, controls)?;
@@ -111,12 +111,12 @@ impl Panel {
     ) -> Result<(), PanelFault>
         ensures answer { result ≡ fit_answer self.old (map K.Sample.parts samples.now) (map K.Sample.parts halves.old) (map K.Sample.parts controls.old) }
         ensures panel { self.new ≡ fit_panel self.old S.LineSolver.meaning T.LineSolver.meaning (map K.Sample.parts samples.now) (map K.Sample.parts halves.old) (map K.Sample.parts controls.old) }
-        ensures halves { map K.Sample.parts halves.new ≡ fit_halves K.Sample.count self.old S.LineSolver.meaning (map K.Sample.parts samples.now) (map K.Sample.parts halves.old) (map K.Sample.parts controls.old) }
-        ensures controls { map K.Sample.parts controls.new ≡ fit_controls K.Sample.count self.old S.LineSolver.meaning T.LineSolver.meaning (map K.Sample.parts samples.now) (map K.Sample.parts halves.old) (map K.Sample.parts controls.old) }
+        ensures halves { map K.Sample.parts halves.new ≡ fit_halves K.Sample.PARTS self.old S.LineSolver.meaning (map K.Sample.parts samples.now) (map K.Sample.parts halves.old) (map K.Sample.parts controls.old) }
+        ensures controls { map K.Sample.parts controls.new ≡ fit_controls K.Sample.PARTS self.old S.LineSolver.meaning T.LineSolver.meaning (map K.Sample.parts samples.now) (map K.Sample.parts halves.old) (map K.Sample.parts controls.old) }
         ensures same { is_err result ≡ true → (halves.new ≡ halves.old) × (controls.new ≡ controls.old) }
         ensures reached { (made : Grid) (h : History) →
-            Reached K.Sample.count made (record { panel = self.old; samples = map K.Sample.parts samples.now; halves = map K.Sample.parts halves.old; controls = map K.Sample.parts controls.old }) h →
-            Fitted K.Sample.count made (record { panel = self.new; samples = map K.Sample.parts samples.now; halves = map K.Sample.parts halves.new; controls = map K.Sample.parts controls.new })
+            Reached K.Sample.PARTS made (record { panel = self.old; samples = map K.Sample.parts samples.now; halves = map K.Sample.parts halves.old; controls = map K.Sample.parts controls.old }) h →
+            Fitted K.Sample.PARTS made (record { panel = self.new; samples = map K.Sample.parts samples.now; halves = map K.Sample.parts halves.new; controls = map K.Sample.parts controls.new })
             (fit_history self.old S.LineSolver.meaning T.LineSolver.meaning h) result }
     {
         self.fitted(samples, halves, controls, first, second)

@@ -107,8 +107,8 @@ pub(crate) fn solve_parts<K: Sample, S: LineSolver>(
     fitted: &mut [i64],
 ) -> Result<(), SolverRefusal>
     requires { (Inside lane (length source.now)) × ((scale ≤ 16) × ((length fitted.old ≡ 256) × (Narrow fitted.old))) }
-    ensures answer { as_answer result ≡ solver_takes number 1 K.Sample.count (laned scale (map K.Sample.parts source.now) lane) }
-    ensures filled { result ≡ Ok tt → (lane.count ≤ 64) × Filled K.Sample.count lane.count S.LineSolver.meaning.rule (laned scale (map K.Sample.parts source.now) lane) fitted.new × Narrow fitted.new }
+    ensures answer { as_answer result ≡ solver_takes number 1 K.Sample.PARTS (laned scale (map K.Sample.parts source.now) lane) }
+    ensures filled { result ≡ Ok tt → (lane.count ≤ 64) × Filled K.Sample.PARTS lane.count S.LineSolver.meaning.rule (laned scale (map K.Sample.parts source.now) lane) fitted.new × Narrow fitted.new }
 {
     if lane.count > 64 {
         return Err(SolverRefusal {
@@ -118,7 +118,7 @@ pub(crate) fn solve_parts<K: Sample, S: LineSolver>(
         });
     }
     let n = lane.count;
-    for q in 0..K::part_count() {
+    for q in 0..K::PARTS {
         solve_part(
             source,
             lane,
@@ -135,10 +135,10 @@ pub(crate) fn solve_parts<K: Sample, S: LineSolver>(
 // The sample with the parts that were solved for entry e.
 fn replaced<K: Sample>(sample: K, fitted: &[i64], e: usize) -> K
     requires { (length fitted.now ≡ 256) × ((e < 64) × (Narrow fitted.now)) }
-    ensures { K.Sample.parts result ≡ column K.Sample.count fitted.now e }
+    ensures { K.Sample.parts result ≡ column K.Sample.PARTS fitted.now e }
 {
     let mut s = sample;
-    for q in 0..K::part_count() {
+    for q in 0..K::PARTS {
         s = s.replace_part(q + 1, fitted[q * 64 + e] as i32);
     }
     s
@@ -147,7 +147,7 @@ fn replaced<K: Sample>(sample: K, fitted: &[i64], e: usize) -> K
 // Stores what was solved along a lane.
 fn store<K: Sample>(target: &mut [K], lane: Lane, fitted: &[i64])
     requires { (Inside lane (length target.old)) × ((lane.count ≤ 64) × ((length fitted.now ≡ 256) × (Narrow fitted.now))) }
-    ensures { map K.Sample.parts target.new ≡ stored K.Sample.count lane fitted.now lane.count (map K.Sample.parts target.old) }
+    ensures { map K.Sample.parts target.new ≡ stored K.Sample.PARTS lane fitted.now lane.count (map K.Sample.parts target.old) }
 {
     for e in 0..lane.count {
         let at = lane.start + e * lane.step;
@@ -165,7 +165,7 @@ pub(crate) fn store_solved<K: Sample>(
 ) -> Result<(), SolverRefusal>
     requires { (Inside lane (length target.old)) × ((length fitted.now ≡ 256) × ((solved ≡ Ok tt → (lane.count ≤ 64) × Narrow fitted.now))) }
     ensures answer { result ≡ solved }
-    ensures after { map K.Sample.parts target.new ≡ if_ok result (stored K.Sample.count lane fitted.now lane.count (map K.Sample.parts target.old)) (map K.Sample.parts target.old) }
+    ensures after { map K.Sample.parts target.new ≡ if_ok result (stored K.Sample.PARTS lane fitted.now lane.count (map K.Sample.parts target.old)) (map K.Sample.parts target.old) }
     ensures same { is_err result ≡ true → target.new ≡ target.old }
 {
     solved?;

@@ -1,6 +1,7 @@
 // Fitting a first line and a second line: the same walk along the other lines of a grid, with another source and another factor.
 ghost use Rattle.std.specs.Prelude.{◌≡◌, ℕ, ◌<◌, ◌≤◌, true, ◌&&◌, map, is_err, unsigned_abs};
-ghost use Rattle.grid.specs.Checks.{check as checked, then};
+ghost use Rattle.std.specs.Result.{result_and};
+ghost use Rattle.grid.specs.Checks.{check as checked};
 ghost use Rattle.grid.specs.Grid.{Grid};
 ghost use Rattle.panel.specs.Calls.{between, sized, all_current, first_lines, second_lines, first_ran_panel, second_ran_panel, first_answer, first_panel, first_halves, second_answer, second_panel, second_controls};
 ghost use Rattle.panel.specs.Lane.{row_lane, column_lane, first_lane, second_lane};
@@ -66,7 +67,7 @@ impl Panel {
         line: i32,
         count: usize,
     ) -> Result<(), PanelFault>
-        ensures { result ≡ then (checked (sized self.now (map K.Sample.parts source.now) && sized self.now (map K.Sample.parts target.now)) PanelFault.GridLength) (checked (between line 1 count) PanelFault.NoLine) }
+        ensures { result ≡ result_and (checked (sized self.now (map K.Sample.parts source.now) && sized self.now (map K.Sample.parts target.now)) PanelFault.GridLength) (checked (between line 1 count) PanelFault.NoLine) }
     {
         check(
             self.is_sized(source) && self.is_sized(target),
@@ -106,9 +107,9 @@ impl Panel {
         line: i32,
         solver: &S,
     ) -> Result<(), PanelFault>
-        ensures answer { result ≡ first_answer K.Sample.count self.old (map K.Sample.parts samples.now) (map K.Sample.parts halves.old) line }
-        ensures panel { self.new ≡ first_panel K.Sample.count self.old S.LineSolver.meaning (map K.Sample.parts samples.now) (map K.Sample.parts halves.old) line }
-        ensures after { map K.Sample.parts halves.new ≡ first_halves K.Sample.count self.old S.LineSolver.meaning (map K.Sample.parts samples.now) (map K.Sample.parts halves.old) line }
+        ensures answer { result ≡ first_answer K.Sample.PARTS self.old (map K.Sample.parts samples.now) (map K.Sample.parts halves.old) line }
+        ensures panel { self.new ≡ first_panel K.Sample.PARTS self.old S.LineSolver.meaning (map K.Sample.parts samples.now) (map K.Sample.parts halves.old) line }
+        ensures after { map K.Sample.parts halves.new ≡ first_halves K.Sample.PARTS self.old S.LineSolver.meaning (map K.Sample.parts samples.now) (map K.Sample.parts halves.old) line }
         ensures same { is_err result ≡ true → halves.new ≡ halves.old }
     {
         self.may_run(samples, halves, line, self.first_lines())?;
@@ -129,9 +130,9 @@ impl Panel {
         line: i32,
         solver: &S,
     ) -> Result<(), PanelFault>
-        ensures answer { result ≡ second_answer K.Sample.count self.old (map K.Sample.parts halves.now) (map K.Sample.parts controls.old) line }
-        ensures panel { self.new ≡ second_panel K.Sample.count self.old S.LineSolver.meaning (map K.Sample.parts halves.now) (map K.Sample.parts controls.old) line }
-        ensures after { map K.Sample.parts controls.new ≡ second_controls K.Sample.count self.old S.LineSolver.meaning (map K.Sample.parts halves.now) (map K.Sample.parts controls.old) line }
+        ensures answer { result ≡ second_answer K.Sample.PARTS self.old (map K.Sample.parts halves.now) (map K.Sample.parts controls.old) line }
+        ensures panel { self.new ≡ second_panel K.Sample.PARTS self.old S.LineSolver.meaning (map K.Sample.parts halves.now) (map K.Sample.parts controls.old) line }
+        ensures after { map K.Sample.parts controls.new ≡ second_controls K.Sample.PARTS self.old S.LineSolver.meaning (map K.Sample.parts halves.now) (map K.Sample.parts controls.old) line }
         ensures same { is_err result ≡ true → controls.new ≡ controls.old }
     {
         self.may_run(halves, controls, line, self.second_lines())?;
@@ -153,14 +154,14 @@ impl Panel {
         line: i32,
         solver: &S,
     ) -> Result<(), PanelFault>
-        ensures answer { result ≡ first_answer K.Sample.count self.old (map K.Sample.parts samples.now) (map K.Sample.parts halves.old) line }
-        ensures panel { self.new ≡ first_panel K.Sample.count self.old S.LineSolver.meaning (map K.Sample.parts samples.now) (map K.Sample.parts halves.old) line }
-        ensures after { map K.Sample.parts halves.new ≡ first_halves K.Sample.count self.old S.LineSolver.meaning (map K.Sample.parts samples.now) (map K.Sample.parts halves.old) line }
+        ensures answer { result ≡ first_answer K.Sample.PARTS self.old (map K.Sample.parts samples.now) (map K.Sample.parts halves.old) line }
+        ensures panel { self.new ≡ first_panel K.Sample.PARTS self.old S.LineSolver.meaning (map K.Sample.parts samples.now) (map K.Sample.parts halves.old) line }
+        ensures after { map K.Sample.parts halves.new ≡ first_halves K.Sample.PARTS self.old S.LineSolver.meaning (map K.Sample.parts samples.now) (map K.Sample.parts halves.old) line }
         ensures same { is_err result ≡ true → halves.new ≡ halves.old }
         ensures reached { (made controls : Grid) (h : History) →
-            Reached K.Sample.count made (record { panel = self.old; samples = map K.Sample.parts samples.now; halves = map K.Sample.parts halves.old; controls = controls }) h →
+            Reached K.Sample.PARTS made (record { panel = self.old; samples = map K.Sample.parts samples.now; halves = map K.Sample.parts halves.old; controls = controls }) h →
             (result ≡ first_refusals self.old line) ×
-            Reached K.Sample.count made (record { panel = self.new; samples = map K.Sample.parts samples.now; halves = map K.Sample.parts halves.new; controls = controls })
+            Reached K.Sample.PARTS made (record { panel = self.new; samples = map K.Sample.parts samples.now; halves = map K.Sample.parts halves.new; controls = controls })
             (recorded result (first_ran (unsigned_abs line) S.LineSolver.meaning) h) }
     {
         self.run_first(samples, halves, line, solver)
@@ -174,14 +175,14 @@ impl Panel {
         line: i32,
         solver: &S,
     ) -> Result<(), PanelFault>
-        ensures answer { result ≡ second_answer K.Sample.count self.old (map K.Sample.parts halves.now) (map K.Sample.parts controls.old) line }
-        ensures panel { self.new ≡ second_panel K.Sample.count self.old S.LineSolver.meaning (map K.Sample.parts halves.now) (map K.Sample.parts controls.old) line }
-        ensures after { map K.Sample.parts controls.new ≡ second_controls K.Sample.count self.old S.LineSolver.meaning (map K.Sample.parts halves.now) (map K.Sample.parts controls.old) line }
+        ensures answer { result ≡ second_answer K.Sample.PARTS self.old (map K.Sample.parts halves.now) (map K.Sample.parts controls.old) line }
+        ensures panel { self.new ≡ second_panel K.Sample.PARTS self.old S.LineSolver.meaning (map K.Sample.parts halves.now) (map K.Sample.parts controls.old) line }
+        ensures after { map K.Sample.parts controls.new ≡ second_controls K.Sample.PARTS self.old S.LineSolver.meaning (map K.Sample.parts halves.now) (map K.Sample.parts controls.old) line }
         ensures same { is_err result ≡ true → controls.new ≡ controls.old }
         ensures reached { (made samples : Grid) (h : History) →
-            Reached K.Sample.count made (record { panel = self.old; samples = samples; halves = map K.Sample.parts halves.now; controls = map K.Sample.parts controls.old }) h →
+            Reached K.Sample.PARTS made (record { panel = self.old; samples = samples; halves = map K.Sample.parts halves.now; controls = map K.Sample.parts controls.old }) h →
             (result ≡ second_refusals self.old h line) ×
-            Reached K.Sample.count made (record { panel = self.new; samples = samples; halves = map K.Sample.parts halves.now; controls = map K.Sample.parts controls.new })
+            Reached K.Sample.PARTS made (record { panel = self.new; samples = samples; halves = map K.Sample.parts halves.now; controls = map K.Sample.parts controls.new })
             (recorded result (second_ran (unsigned_abs line) S.LineSolver.meaning) h) }
     {
         self.run_second(halves, controls, line, solver)

@@ -61,8 +61,8 @@ impl Panel {
         controls: &[K],
     ) -> Result<Panel, PanelFault>
         ensures answer { result ≡ make_result rows columns order (map K.Sample.parts samples.now) (map K.Sample.parts halves.now) (map K.Sample.parts controls.now) }
-        ensures surface { HasOneSurface K.Sample.count (map K.Sample.parts samples.now) result }
-        ensures reached { Begins K.Sample.count (map K.Sample.parts samples.now) (map K.Sample.parts halves.now) (map K.Sample.parts controls.now) result }
+        ensures surface { HasOneSurface K.Sample.PARTS (map K.Sample.parts samples.now) result }
+        ensures reached { Begins K.Sample.PARTS (map K.Sample.parts samples.now) (map K.Sample.parts halves.now) (map K.Sample.parts controls.now) result }
     {
         made(rows, columns, order, samples, halves, controls)
     }

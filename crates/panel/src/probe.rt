@@ -86,8 +86,8 @@ impl Panel {
         ensures after { map K.Sample.parts samples.new ≡ probe_samples self.old (map K.Sample.parts samples.old) row column (K.Sample.parts new) }
         ensures same { samples.new ≡ if_ok result (slice_set samples.old (index self.old.columns (unsigned_abs row) (unsigned_abs column)) new) samples.old }
         ensures reached { (made halves controls : Grid) (h : History) →
-            Reached K.Sample.count made (record { panel = self.old; samples = map K.Sample.parts samples.old; halves = halves; controls = controls }) h →
-            Reached K.Sample.count made (record { panel = self.new; samples = map K.Sample.parts samples.new; halves = halves; controls = controls })
+            Reached K.Sample.PARTS made (record { panel = self.old; samples = map K.Sample.parts samples.old; halves = halves; controls = controls }) h →
+            Reached K.Sample.PARTS made (record { panel = self.new; samples = map K.Sample.parts samples.new; halves = halves; controls = controls })
             (recorded result (probed (unsigned_abs row) (unsigned_abs column) (K.Sample.parts new)) h) }
     {
         self.put(samples, row, column, new)

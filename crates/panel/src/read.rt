@@ -1,7 +1,8 @@
 // Reading the fitted surface at a place, with the tolerance of the reading.
 ghost use Rattle.std.specs.Prelude.{◌≡◌, ℕ, ◌+◌, ◌-◌, ◌*◌, ◌<◌, ◌≤◌, map, length, pos, cond, Some, None, Ok, slice_index, unsigned_abs};
 ghost use Rattle.std.specs.List.{range_with_len};
-ghost use Rattle.grid.specs.Checks.{check as checked, then};
+ghost use Rattle.std.specs.Result.{result_and};
+ghost use Rattle.grid.specs.Checks.{check as checked};
 ghost use Rattle.grid.specs.Grid.{Grid, at};
 ghost use Rattle.line.specs.Line.{OnLine};
 ghost use Rattle.surface.specs.Patch.{within_reach};
@@ -50,7 +51,7 @@ impl Panel {
 
     // The checks of a reading before that of its control points.
     fn may_read<K: Sample>(&self, controls: &[K], x: i32, y: i32) -> Result<(), PanelFault>
-        ensures { result ≡ then (checked (sized self.now (map K.Sample.parts controls.now)) PanelFault.GridLength) (then (checked (in_area self.now x y) PanelFault.OutsideArea) (checked (needed_current self.now (unsigned_abs x) (unsigned_abs y)) PanelFault.SecondStale)) }
+        ensures { result ≡ result_and (checked (sized self.now (map K.Sample.parts controls.now)) PanelFault.GridLength) (result_and (checked (in_area self.now x y) PanelFault.OutsideArea) (checked (needed_current self.now (unsigned_abs x) (unsigned_abs y)) PanelFault.SecondStale)) }
     {
         check(self.is_sized(controls), PanelFault::GridLength)?;
         check(self.has_in_area(x, y), PanelFault::OutsideArea)?;
@@ -147,10 +148,10 @@ impl Panel {
     // The reading as a sample: any sample of the kind, with each part replaced.
     fn reading<K: Sample>(&self, controls: &[K], x: usize, y: usize) -> Result<K, PanelFault>
         requires { (length controls.now ≡ self.now.rows * self.now.columns) × (InArea self.now x y) }
-        ensures { sample_shown K.Sample.parts result ≡ then (checked (needed_within K.Sample.count self.now (map K.Sample.parts controls.now) x y) PanelFault.ControlBeyond) (Ok (map (part_read self.now (map K.Sample.parts controls.now) x y) (range_with_len 1 K.Sample.count))) }
+        ensures { sample_shown K.Sample.parts result ≡ result_and (checked (needed_within K.Sample.PARTS self.now (map K.Sample.parts controls.now) x y) PanelFault.ControlBeyond) (Ok (map (part_read self.now (map K.Sample.parts controls.now) x y) (range_with_len 1 K.Sample.PARTS))) }
     {
         let mut sample = controls[0];
-        for k in 0..K::part_count() {
+        for k in 0..K::PARTS {
             let Some(part) = self.part_reading(controls, k + 1, x, y) else {
                 return Err(PanelFault::ControlBeyond);
             };
@@ -161,7 +162,7 @@ impl Panel {
 
     // A reading with its checks.
     fn answered<K: Sample>(&self, controls: &[K], x: i32, y: i32) -> Result<(K, u32), PanelFault>
-        ensures { shown K.Sample.parts result ≡ read_answer K.Sample.count self.now (map K.Sample.parts controls.now) x y }
+        ensures { shown K.Sample.parts result ≡ read_answer K.Sample.PARTS self.now (map K.Sample.parts controls.now) x y }
     {
         self.may_read(controls, x, y)?;
         let sample = self.reading(controls, x as usize, y as usize)?;
@@ -171,11 +172,11 @@ impl Panel {
     // Reads the surface at x along the rows' numbering and y along the columns', in 32nds with row 1 at 32: the reading in fine units, part
     // by part, and its tolerance. After any calls since make each part lies within half the tolerance of the exact surface through the samples held.
     pub fn read<K: Sample>(&self, controls: &[K], x: i32, y: i32) -> Result<(K, u32), PanelFault>
-        ensures answer { shown K.Sample.parts result ≡ read_answer K.Sample.count self.now (map K.Sample.parts controls.now) x y }
+        ensures answer { shown K.Sample.parts result ≡ read_answer K.Sample.PARTS self.now (map K.Sample.parts controls.now) x y }
         ensures faithful { (made samples halves : Grid) (h : History) (u v : ℕ) → x ≡ pos u → y ≡ pos v →
-            Reached K.Sample.count made (record { panel = self.now; samples = samples; halves = halves; controls = map K.Sample.parts controls.now }) h →
+            Reached K.Sample.PARTS made (record { panel = self.now; samples = samples; halves = halves; controls = map K.Sample.parts controls.now }) h →
             InArea self.now u v →
-            ReadsFaithfully K.Sample.count self.now made h u v (shown K.Sample.parts result) }
+            ReadsFaithfully K.Sample.PARTS self.now made h u v (shown K.Sample.parts result) }
     {
         self.answered(controls, x, y)
     }

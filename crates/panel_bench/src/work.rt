@@ -31,7 +31,7 @@ fn place(state: &mut u64) -> i32 {
 // The sample with every part random.
 fn random<K: Sample>(sample: K, state: &mut u64) -> K {
     let mut changed = sample;
-    for k in 0..K::part_count() {
+    for k in 0..K::PARTS {
         changed = changed.replace_part(k.wrapping_add(1), part(state));
     }
     changed

@@ -1,7 +1,8 @@
 -- What the checks of an accepted file say, and that they are all there is to say.
 use Rattle.std.proofs.Common.{◌≡◌, ℕ, ◌+◌, ◌*◌, ◌<◌, ◌≤◌, true, eqb, leb, ◌⊎◌, List, length, nat_abs, Ok, ◌∙◌, inl, inr, arith}
 use Rattle.std.proofs.lemmas.Bool.{leb-true, le-leb, eqb-true, eq-eqb, and_parts, and_from, or_cases, or_left, or_right}
-use Rattle.grid.specs.Checks.{check, then}
+use Rattle.std.specs.Result.{result_and}
+use Rattle.grid.specs.Checks.{check}
 use Rattle.grid.proofs.Chains.{held, holds_good, both_good, over}
 use Rattle.panel_file.specs.declared.refusal.FileFault.TheVariants.{WrongCount, WrongParts, WrongSize, PartBeyond, BytesLeftOver, WrongNameByte}
 use Rattle.panel_file.specs.declared.refusal.Section.TheVariants.{Sizes, Samples, Name}
@@ -103,7 +104,7 @@ module _ (file : List ℕ) where
 
   pub admitted : Accepted file → open_answer file ≡ Ok tt
   admitted a =
-      over (sizes_answer file) (then (samples_answer file (size_of file) (parts_of file)) (name_answer file E)) tt sizes
+      over (sizes_answer file) (result_and (samples_answer file (size_of file) (parts_of file)) (name_answer file E)) tt sizes
       ∙ over (samples_answer file (size_of file) (parts_of file)) (name_answer file E) tt samples
       ∙ name
     where

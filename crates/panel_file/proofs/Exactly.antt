@@ -1,7 +1,8 @@
 -- A file is accepted exactly when it encodes contents within the limits, and then these are answered and filled in.
 use Rattle.std.proofs.Common.{◌≡◌, ℕ, ◌+◌, ◌*◌, ◌<◌, ◌≤◌, eqb, List, length, ℤ, IfOk, Ok, Err, Result, sym, refl, ap, ◌∙◌, subst, ap₂, arith, rules}
 use Rattle.std.proofs.lemmas.Bool.{eqb-true, eq-eqb}
-use Rattle.grid.specs.Checks.{check, then, if_ok}
+use Rattle.std.specs.Result.{result_and}
+use Rattle.grid.specs.Checks.{check, if_ok}
 use Rattle.grid.proofs.Chains.{held, both_good, holds_good, over}
 use Rattle.panel_file.specs.declared.refusal.FileFault.TheVariants.{WrongParts}
 use Rattle.panel_file.specs.declared.refusal.FileRefusal.{FileRefusal}
@@ -36,7 +37,7 @@ module _ (file : List ℕ) (bytes : (at : ℕ) → byte_at file at < 256) where
   pub opens : (r : Result Summary FileRefusal) → r ≡ open_result file → OpensExactly file r
   opens r e = subst (OpensExactly file) (sym e) (go (open_answer file) refl)
     where
-      go : (a : Answer) → open_answer file ≡ a → OpensExactly file (then a (Ok (summary file)))
+      go : (a : Answer) → open_answer file ≡ a → OpensExactly file (result_and a (Ok (summary file)))
       go (Ok tt) h = (decode file, holds h, refl)
       go (Err refusal) h = λ c held. let z : ◌≡◌ {A = Answer} (Ok tt) (Err refusal) = sym (good file c held) ∙ h in search rules
 
@@ -63,7 +64,7 @@ module _ (parts : ℕ) (file : List ℕ) (room : ℕ) where
 
   fits : Ok tt ≡ fill_answer parts file room → Fits parts file room
   fits h =
-      let file_and_grid = both_good (of_file (open_answer file)) (then kind size) (sym h) in
+      let file_and_grid = both_good (of_file (open_answer file)) (result_and kind size) (sym h) in
       let grid = both_good kind size file_and_grid.1 in
       record {
         opened = from_file (open_answer file) file_and_grid.0;
@@ -73,7 +74,7 @@ module _ (parts : ℕ) (file : List ℕ) (room : ℕ) where
 
   admits : Fits parts file room → fill_answer parts file room ≡ Ok tt
   admits f =
-      over (of_file (open_answer file)) (then kind size) tt (ap of_file f.opened)
+      over (of_file (open_answer file)) (result_and kind size) tt (ap of_file f.opened)
       ∙ over kind size tt (holds_good (eqb (parts_of file) parts) (File (refused WrongParts Sizes 4)) (eq-eqb _ _ f.own_parts))
       ∙ holds_good (eqb room (places file)) GridLength (eq-eqb _ _ f.own_room)
 

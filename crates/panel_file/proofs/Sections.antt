@@ -1,6 +1,6 @@
 -- The three sections one after the other, as `checked` walks them: A, B and N are their answers.
 use Rattle.std.proofs.Common.{◌≡◌, ℕ, ◌+◌, List, drop, Ok, Err, Result, sym, ap, ◌∙◌, ap₂}
-use Rattle.grid.specs.Checks.{then}
+use Rattle.std.specs.Result.{result_and}
 use Rattle.grid.specs.declared.size.GridSize.{GridSize}
 use Rattle.grid.proofs.Chains.{refused_by, passed_by, over, stop}
 use Rattle.panel_file.specs.declared.refusal.FileRefusal.{FileRefusal}
@@ -18,10 +18,10 @@ found file = (size_of file, parts_of file, name_begin file)
 module _ (file : List ℕ) where
   -- what the steps of the code answered
   abbrev pub SizesStep : Result (GridSize × ℕ) FileRefusal → Type 0
-  SizesStep r = r ≡ then (sizes_answer file) (Ok (size_of file, parts_of file))
+  SizesStep r = r ≡ result_and (sizes_answer file) (Ok (size_of file, parts_of file))
 
   abbrev pub SamplesStep : GridSize → ℕ → Result ℕ FileRefusal → Type 0
-  SamplesStep size parts r = r ≡ then (samples_answer file size parts) (Ok (samples_end size parts))
+  SamplesStep size parts r = r ≡ result_and (samples_answer file size parts) (Ok (samples_end size parts))
 
   abbrev A : Answer
   A = sizes_answer file
@@ -35,30 +35,30 @@ module _ (file : List ℕ) where
   -- the second step was made with what the first gave
   samples_step : (size : GridSize) (parts : ℕ) (r : Result ℕ FileRefusal) → SizesStep (Ok (size, parts)) → SamplesStep size parts r → SamplesStep (size_of file) (parts_of file) r
   samples_step size parts r a b =
-      b ∙ ap (λ p. then (samples_answer file p.0 p.1) (Ok (samples_end p.0 p.1))) (passed_by A (size_of file, parts_of file) (size, parts) a).1
+      b ∙ ap (λ p. result_and (samples_answer file p.0 p.1) (Ok (samples_end p.0 p.1))) (passed_by A (size_of file, parts_of file) (size, parts) a).1
 
-  pub at_sizes : (e : FileRefusal) → SizesStep (Err e) → Err e ≡ then (open_answer file) (Ok (found file))
-  at_sizes e a = sym (stop (open_answer file) (Ok (found file)) e (stop A (then B N) e (refused_by A (size_of file, parts_of file) e a)))
+  pub at_sizes : (e : FileRefusal) → SizesStep (Err e) → Err e ≡ result_and (open_answer file) (Ok (found file))
+  at_sizes e a = sym (stop (open_answer file) (Ok (found file)) e (stop A (result_and B N) e (refused_by A (size_of file, parts_of file) e a)))
 
   module _ (size : GridSize) (parts : ℕ) (a : SizesStep (Ok (size, parts))) where
     first : A ≡ Ok tt
     first = (passed_by A (size_of file, parts_of file) (size, parts) a).0
 
-    pub at_samples : (e : FileRefusal) → SamplesStep size parts (Err e) → Err e ≡ then (open_answer file) (Ok (found file))
+    pub at_samples : (e : FileRefusal) → SamplesStep size parts (Err e) → Err e ≡ result_and (open_answer file) (Ok (found file))
     at_samples e b =
-        sym (stop (open_answer file) (Ok (found file)) e (over A (then B N) tt first ∙ stop B N e (refused_by B (samples_end (size_of file) (parts_of file)) e (samples_step size parts (Err e) a b))))
+        sym (stop (open_answer file) (Ok (found file)) e (over A (result_and B N) tt first ∙ stop B N e (refused_by B (samples_end (size_of file) (parts_of file)) e (samples_step size parts (Err e) a b))))
 
     module _ (at : ℕ) (b : SamplesStep size parts (Ok at)) where
       second : (B ≡ Ok tt) × (at ≡ samples_end (size_of file) (parts_of file))
       second = passed_by B (samples_end (size_of file) (parts_of file)) at (samples_step size parts (Ok at) a b)
 
       third : (r : Answer) → r ≡ name_answer file at → open_answer file ≡ r
-      third r n = over A (then B N) tt first ∙ over B N tt second.0 ∙ sym (n ∙ ap (name_answer file) second.1)
+      third r n = over A (result_and B N) tt first ∙ over B N tt second.0 ∙ sym (n ∙ ap (name_answer file) second.1)
 
-      pub at_name : (e : FileRefusal) → Err e ≡ name_answer file at → Err e ≡ then (open_answer file) (Ok (found file))
+      pub at_name : (e : FileRefusal) → Err e ≡ name_answer file at → Err e ≡ result_and (open_answer file) (Ok (found file))
       at_name e n = sym (stop (open_answer file) (Ok (found file)) e (third (Err e) n))
 
-      pub all_passed : Ok tt ≡ name_answer file at → Ok (size, parts, at + 2) ≡ then (open_answer file) (Ok (found file))
+      pub all_passed : Ok tt ≡ name_answer file at → Ok (size, parts, at + 2) ≡ result_and (open_answer file) (Ok (found file))
       all_passed n =
           let sizes : (size, parts) ≡ (size_of file, parts_of file) = (passed_by A (size_of file, parts_of file) (size, parts) a).1 in
           ap₂ (λ p k. Ok (p.0, p.1, k + 2)) sizes second.1
@@ -72,7 +72,7 @@ pub said_is : (file : List ℕ) (f : Found) (s : Summary) → s.size ≡ f.0 →
 said_is file f s size parts name =
     ap₂ (λ a b. record { size = a; parts = b; name = s.name }) size parts ∙ ap (λ l. record { size = f.0; parts = f.1; name = l }) name
 
-pub summed : (file : List ℕ) (f : Found) → Ok f ≡ then (open_answer file) (Ok (found file)) → Ok (said file f) ≡ open_result file
+pub summed : (file : List ℕ) (f : Found) → Ok f ≡ result_and (open_answer file) (Ok (found file)) → Ok (said file f) ≡ open_result file
 summed file f h =
     let p = passed_by (open_answer file) (found file) f h in
     ap (λ g. Ok (said file g)) p.1 ∙ sym (over (open_answer file) (Ok (summary file)) tt p.0)

@@ -1,7 +1,8 @@
 -- The fields of a panel file: where they stand, what they say, and which are refused.
 -- An offset counts bytes from 0 at the start of the file; numbers of several bytes have the low byte first.
 use Rattle.std.specs.Prelude.{ℕ, zero, suc, ◌+◌, ◌-◌, ◌*◌, Bool, cond, List, length, ℤ, pos, negsuc, Ok, Result, nat_le, nat_lt, slice_index}
-use Rattle.grid.specs.Checks.{check, then}
+use Rattle.std.specs.Result.{result_and}
+use Rattle.grid.specs.Checks.{check}
 use Rattle.panel_file.specs.declared.refusal.FileFault.{FileFault}
 use Rattle.panel_file.specs.declared.refusal.FileFault.TheVariants.{EndsEarly}
 use Rattle.panel_file.specs.declared.refusal.FileRefusal.{FileRefusal}
@@ -39,10 +40,10 @@ present file section width at = check (nat_le (at + width) (length file)) (refus
 -- A field: first that the file does not end early, then the field's own test.
 abbrev pub field : List ℕ → Section → FileFault → ℕ → (ℕ → Bool) → ℕ → Answer
 field file section fault width holds at =
-    then (present file section width at) (check (holds at) (refused fault section at))
+    result_and (present file section width at) (check (holds at) (refused fault section at))
 
 -- So many fields one after the other, all of one width and with one test.
 abbrev pub fields : List ℕ → Section → FileFault → ℕ → (ℕ → Bool) → ℕ → ℕ → Answer
 fields file section fault width holds zero at = Ok tt
 fields file section fault width holds (suc left) at =
-    then (field file section fault width holds at) (fields file section fault width holds left (at + width))
+    result_and (field file section fault width holds at) (fields file section fault width holds left (at + width))

@@ -1,7 +1,8 @@
 -- What `fill` answers, and the samples that it writes.
 use Rattle.std.specs.Prelude.{ℕ, ◌+◌, ◌*◌, List, map, ℤ, Ok, Err, Result, ◌==◌}
 use Rattle.std.specs.List.{range_with_len}
-use Rattle.grid.specs.Checks.{check, then}
+use Rattle.std.specs.Result.{result_and}
+use Rattle.grid.specs.Checks.{check}
 use Rattle.panel_file.specs.declared.refusal.FileFault.TheVariants.{WrongParts}
 use Rattle.panel_file.specs.declared.refusal.FileRefusal.{FileRefusal}
 use Rattle.panel_file.specs.declared.refusal.FillFault.{FillFault}
@@ -23,8 +24,8 @@ of_file (Err refusal) = Err (File refusal)
 -- First the file; then its parts against those of the grid's kind; then how many samples the grid has.
 abbrev pub fill_answer : ℕ → List ℕ → ℕ → FillAnswer
 fill_answer parts file room =
-    then (of_file (open_answer file))
-    (then (check (parts_of file == parts) (File (refused WrongParts Sizes 4)))
+    result_and (of_file (open_answer file))
+    (result_and (check (parts_of file == parts) (File (refused WrongParts Sizes 4)))
     (check (room == (size_of file).rows * (size_of file).columns) GridLength))
 
 -- So many parts from an offset on.

@@ -3,7 +3,8 @@
 --   offset 5: count rows x columns | 7: the parts of the samples, row by row, four bytes each
 --   then: count of the name's bytes | the name | the end of the file
 use Rattle.std.specs.Prelude.{ℕ, ◌+◌, ◌*◌, Bool, ◌&&◌, ◌||◌, List, length, drop, ℤ, ◌==◌, nat_le, unsigned_abs}
-use Rattle.grid.specs.Checks.{check, then}
+use Rattle.std.specs.Result.{result_and}
+use Rattle.grid.specs.Checks.{check}
 use Rattle.grid.specs.declared.size.GridSize.{GridSize}
 use Rattle.panel_file.specs.declared.refusal.FileFault.TheVariants.{WrongCount, WrongParts, WrongSize, PartBeyond, BytesLeftOver, WrongNameByte}
 use Rattle.panel_file.specs.declared.refusal.Section.TheVariants.{Sizes, Samples, Name}
@@ -28,9 +29,9 @@ printable b = nat_le 32 b && nat_le b 126
 -- Section 1, and what its fields say.
 abbrev pub sizes_answer : List ℕ → Answer
 sizes_answer file =
-    then (field file Sizes WrongCount 2 (λ here. count_at file here == 3) 0)
-    (then (field file Sizes WrongSize 1 (λ here. size_fits (byte_at file here)) 2)
-    (then (field file Sizes WrongSize 1 (λ here. size_fits (byte_at file here)) 3)
+    result_and (field file Sizes WrongCount 2 (λ here. count_at file here == 3) 0)
+    (result_and (field file Sizes WrongSize 1 (λ here. size_fits (byte_at file here)) 2)
+    (result_and (field file Sizes WrongSize 1 (λ here. size_fits (byte_at file here)) 3)
     (field file Sizes WrongParts 1 (λ here. parts_fit (byte_at file here)) 4)))
 
 -- Rows and columns.
@@ -48,7 +49,7 @@ parts_from file count at = fields file Samples PartBeyond 4 (λ here. part_fits 
 -- Section 2.
 abbrev pub samples_answer : List ℕ → GridSize → ℕ → Answer
 samples_answer file size parts =
-    then (field file Samples WrongCount 2 (λ here. count_at file here == size.rows * size.columns) 5)
+    result_and (field file Samples WrongCount 2 (λ here. count_at file here == size.rows * size.columns) 5)
     (parts_from file (size.rows * size.columns * parts) 7)
 
 -- The offset at which section 2 ends.
@@ -62,8 +63,8 @@ name_from file count at = fields file Name WrongNameByte 1 (λ here. printable (
 -- Section 3, whose count stands at an offset; nothing may follow it.
 abbrev pub name_answer : List ℕ → ℕ → Answer
 name_answer file at =
-    then (field file Name WrongCount 2 (λ here. nat_le (count_at file here) 40) at)
-    (then (name_from file (count_at file at) (at + 2))
+    result_and (field file Name WrongCount 2 (λ here. nat_le (count_at file here) 40) at)
+    (result_and (name_from file (count_at file at) (at + 2))
     (check (length file == at + 2 + count_at file at) (refused BytesLeftOver Name (at + 2 + count_at file at))))
 
 -- The name: all that stands after its count.

@@ -1,6 +1,6 @@
 -- What `open` answers: the checks in the order of the file's bytes, then what the file says.
 use Rattle.std.specs.Prelude.{ℕ, ◌+◌, List, Ok, Err, Result}
-use Rattle.grid.specs.Checks.{then}
+use Rattle.std.specs.Result.{result_and}
 use Rattle.grid.specs.declared.size.GridSize.{GridSize}
 use Rattle.panel_file.specs.declared.opened.PanelFile.{PanelFile}
 use Rattle.panel_file.specs.declared.refusal.FileRefusal.{FileRefusal}
@@ -25,8 +25,8 @@ shown (Err refusal) = Err refusal
 -- All checks of a file.
 abbrev pub open_answer : List ℕ → Answer
 open_answer file =
-    then (sizes_answer file)
-    (then (samples_answer file (size_of file) (parts_of file))
+    result_and (sizes_answer file)
+    (result_and (samples_answer file (size_of file) (parts_of file))
     (name_answer file (samples_end (size_of file) (parts_of file))))
 
 -- Where the name begins.
@@ -40,4 +40,4 @@ summary file =
 
 -- The first refusal, or what the file says.
 abbrev pub open_result : List ℕ → Result Summary FileRefusal
-open_result file = then (open_answer file) (Ok (summary file))
+open_result file = result_and (open_answer file) (Ok (summary file))

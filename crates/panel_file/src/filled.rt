@@ -37,11 +37,11 @@ fn admitted(file: &[u8], parts: usize, room: usize) -> Result<(), FillFault>
 
 // The sample that stands at `at`: every part of another sample is replaced.
 fn sample_at<K: Sample>(file: &[u8], at: usize, other: K) -> K
-    requires { at + K.Sample.count * 4 ≤ length file.now }
-    ensures { K.Sample.parts result ≡ parts_at file.now K.Sample.count at }
+    requires { at + K.Sample.PARTS * 4 ≤ length file.now }
+    ensures { K.Sample.parts result ≡ parts_at file.now K.Sample.PARTS at }
 {
     let mut sample = other;
-    for k in 0..K::part_count() {
+    for k in 0..K::PARTS {
         sample = sample.replace_part(k + 1, part(file, at + k * 4));
     }
     sample
@@ -49,10 +49,10 @@ fn sample_at<K: Sample>(file: &[u8], at: usize, other: K) -> K
 
 // The samples of a file that has them, one after the other.
 fn store<K: Sample>(file: &[u8], grid: &mut [K])
-    requires { 7 + length grid.old * (K.Sample.count * 4) ≤ length file.now }
-    ensures { map K.Sample.parts grid.new ≡ samples_of file.now K.Sample.count (length grid.old) }
+    requires { 7 + length grid.old * (K.Sample.PARTS * 4) ≤ length file.now }
+    ensures { map K.Sample.parts grid.new ≡ samples_of file.now K.Sample.PARTS (length grid.old) }
 {
-    let width = K::part_count() * 4;
+    let width = K::PARTS * 4;
     for i in 0..grid.len() {
         let old = grid[i];
         grid[i] = sample_at(file, 7 + i * width, old);
@@ -61,21 +61,21 @@ fn store<K: Sample>(file: &[u8], grid: &mut [K])
 
 // All checks, and then the samples.
 fn filled<K: Sample>(file: &[u8], grid: &mut [K]) -> Result<(), FillFault>
-    ensures answer { result ≡ fill_answer K.Sample.count file.now (length grid.old) }
-    ensures after { map K.Sample.parts grid.new ≡ if_ok result (samples_of file.now K.Sample.count (length grid.old)) (map K.Sample.parts grid.old) }
+    ensures answer { result ≡ fill_answer K.Sample.PARTS file.now (length grid.old) }
+    ensures after { map K.Sample.parts grid.new ≡ if_ok result (samples_of file.now K.Sample.PARTS (length grid.old)) (map K.Sample.parts grid.old) }
     ensures same { is_err result ≡ true → grid.new ≡ grid.old }
 {
-    admitted(file, K::part_count(), grid.len())?;
+    admitted(file, K::PARTS, grid.len())?;
     store(file, grid);
     Ok(())
 }
 
 // Writes the samples of a file into a grid of any kind; a refusal leaves the grid as it was.
 pub fn fill<K: Sample>(file: &[u8], grid: &mut [K]) -> Result<(), FillFault>
-    ensures answer { result ≡ fill_answer K.Sample.count file.now (length grid.old) }
-    ensures after { map K.Sample.parts grid.new ≡ if_ok result (samples_of file.now K.Sample.count (length grid.old)) (map K.Sample.parts grid.old) }
+    ensures answer { result ≡ fill_answer K.Sample.PARTS file.now (length grid.old) }
+    ensures after { map K.Sample.parts grid.new ≡ if_ok result (samples_of file.now K.Sample.PARTS (length grid.old)) (map K.Sample.parts grid.old) }
     ensures same { is_err result ≡ true → grid.new ≡ grid.old }
-    ensures exact { FillsExactly K.Sample.count file.now result (map K.Sample.parts grid.new) }
+    ensures exact { FillsExactly K.Sample.PARTS file.now result (map K.Sample.parts grid.new) }
 {
     filled(file, grid)
 }

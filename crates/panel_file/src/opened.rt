@@ -1,6 +1,6 @@
 // Opening a panel file: all of its checks, and what it says of itself.
 ghost use Rattle.std.specs.Prelude.{◌≡◌, ◌≤◌, length, drop, IfOk, Ok};
-ghost use Rattle.grid.specs.Checks.{then};
+ghost use Rattle.std.specs.Result.{result_and};
 ghost use Rattle.panel_file.specs.Laws.{OpensExactly, OneEncoding, Enough};
 ghost use Rattle.panel_file.specs.Layout.{size_of, parts_of};
 ghost use Rattle.panel_file.specs.Open.{shown, open_answer, name_begin, open_result};
@@ -19,7 +19,7 @@ pub struct PanelFile<'a> {
 
 // All checks; then the sizes, the parts, and where the name begins.
 pub(crate) fn checked(file: &[u8]) -> Result<(GridSize, u8, usize), FileRefusal>
-    ensures answer { result ≡ then (open_answer file.now) (Ok (size_of file.now, parts_of file.now, name_begin file.now)) }
+    ensures answer { result ≡ result_and (open_answer file.now) (Ok (size_of file.now, parts_of file.now, name_begin file.now)) }
     ensures within { IfOk result (λ l. l.2 ≤ length file.now) }
 {
     let (size, parts) = sizes(file)?;

@@ -1,6 +1,6 @@
 // The three sections of a panel file, checked field by field in the order of their bytes.
 ghost use Rattle.std.specs.Prelude.{◌≡◌, ◌+◌, ◌*◌, ◌^◌, ◌<◌, ◌≤◌, length, IfOk, Ok, OnOk};
-ghost use Rattle.grid.specs.Checks.{then};
+ghost use Rattle.std.specs.Result.{result_and};
 ghost use Rattle.panel_file.specs.Field.{byte_at, part_at, field};
 ghost use Rattle.panel_file.specs.Layout.{size_fits, part_fits, printable, sizes_answer, size_of, parts_of, parts_from, samples_answer, samples_end, name_from, name_answer};
 
@@ -21,7 +21,7 @@ const SAMPLES: usize = 7;
 // A number of rows or of columns.
 fn size_at(file: &[u8], at: usize) -> Result<u8, FileRefusal>
     requires { at < 2 ^ 32 }
-    ensures { result ≡ then (field file.now Section.Sizes FileFault.WrongSize 1 (λ at. size_fits (byte_at file.now at)) at) (Ok (byte_at file.now at)) }
+    ensures { result ≡ result_and (field file.now Section.Sizes FileFault.WrongSize 1 (λ at. size_fits (byte_at file.now at)) at) (Ok (byte_at file.now at)) }
 {
     let size = byte_at(file, Section::Sizes, at)?;
     require(
@@ -35,7 +35,7 @@ fn size_at(file: &[u8], at: usize) -> Result<u8, FileRefusal>
 
 // The sizes of the grid, and how many parts a sample has.
 pub(crate) fn sizes(file: &[u8]) -> Result<(GridSize, u8), FileRefusal>
-    ensures { result ≡ then (sizes_answer file.now) (Ok (size_of file.now, parts_of file.now)) }
+    ensures { result ≡ result_and (sizes_answer file.now) (Ok (size_of file.now, parts_of file.now)) }
 {
     let count = count_at(file, Section::Sizes, 0)?;
     require(count == 3, FileFault::WrongCount, Section::Sizes, 0)?;
@@ -78,7 +78,7 @@ fn parts_within(file: &[u8], count: usize) -> Result<(), FileRefusal>
 
 // The samples; the answer is the offset at which they end.
 pub(crate) fn samples(file: &[u8], size: GridSize, parts: u8) -> Result<usize, FileRefusal>
-    ensures answer { result ≡ then (samples_answer file.now size parts) (Ok (samples_end size parts)) }
+    ensures answer { result ≡ result_and (samples_answer file.now size parts) (Ok (samples_end size parts)) }
     ensures bound { IfOk result (λ end. end < 2 ^ 30) }
 {
     let places = size.count();

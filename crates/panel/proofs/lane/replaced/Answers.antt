@@ -16,4 +16,4 @@ loop-q-preserved g c k l =
 
 pub returns : goal.returns
 returns g c =
-    fill_by_all (λ q. get_or c.args.fitted.now (q * 64 + c.args.e) (pos 0)) (g.K.Sample.parts c.loop-q.s) g.K.Sample.count (pos 0) (g.met.K.Sample.counted.2 c.loop-q.s) (λ k h. c.loop-q.invariant k (omega arith))
+    fill_by_all (λ q. get_or c.args.fitted.now (q * 64 + c.args.e) (pos 0)) (g.K.Sample.parts c.loop-q.s) g.K.Sample.PARTS (pos 0) (g.met.K.Sample.counted.2 c.loop-q.s) (λ k h. c.loop-q.invariant k (omega arith))

@@ -10,5 +10,5 @@ returns g c =
       answer = c.filled.ensures.answer;
       after = c.filled.ensures.after;
       same = c.filled.ensures.same;
-      exact = fills g.K.Sample.count c.args.file.now (λ at. (c.type_inv.file at).fits) (length c.args.grid.now) _ _ _ (length-map c.args.grid.now g.K.Sample.parts) c.filled.ensures.answer c.filled.ensures.after;
+      exact = fills g.K.Sample.PARTS c.args.file.now (λ at. (c.type_inv.file at).fits) (length c.args.grid.now) _ _ _ (length-map c.args.grid.now g.K.Sample.parts) c.filled.ensures.answer c.filled.ensures.after;
     }

@@ -11,7 +11,7 @@ returns-in_err-may_read g c =
     let p = c.args.self.now in
     let controls = map g.K.Sample.parts c.args.controls.now in
     let no = given_two (asked p controls) _ c.args.x c.args.y c.ranges.x c.ranges.y c.in_err-may_read.ensures in
-    ap (shown g.K.Sample.parts) (exit _ c.from_residual.ensures.1) ∙ sym (read_out p controls c.args.x c.args.y g.K.Sample.count _ no)
+    ap (shown g.K.Sample.parts) (exit _ c.from_residual.ensures.1) ∙ sym (read_out p controls c.args.x c.args.y g.K.Sample.PARTS _ no)
 
 pub reading-requires : goal.reading-requires
 reading-requires g c =
@@ -27,16 +27,16 @@ returns-in_err-sample g c =
     let p = c.args.self.now in
     let controls = map g.K.Sample.parts c.args.controls.now in
     let ok = given_two (asked p controls) _ c.args.x c.args.y c.ranges.x c.ranges.y c.in_ok-may_read.ensures in
-    let no = given_two (λ x y. sampled g.K.Sample.count p controls (nat_abs x) (nat_abs y)) _ c.args.x c.args.y c.ranges.x c.ranges.y c.in_err-sample.ensures in
+    let no = given_two (λ x y. sampled g.K.Sample.PARTS p controls (nat_abs x) (nat_abs y)) _ c.args.x c.args.y c.ranges.x c.ranges.y c.in_err-sample.ensures in
     ap (shown g.K.Sample.parts) (exit _ c.from_residual-in_err-sample.ensures.1)
-    ∙ stated_refused g.K.Sample.count p controls (nat_abs c.args.x) (nat_abs c.args.y) _ no ∙ sym (read_past p controls c.args.x c.args.y g.K.Sample.count ok)
+    ∙ stated_refused g.K.Sample.PARTS p controls (nat_abs c.args.x) (nat_abs c.args.y) _ no ∙ sym (read_past p controls c.args.x c.args.y g.K.Sample.PARTS ok)
 
 pub returns : goal.returns
 returns g c =
     let p = c.args.self.now in
     let controls = map g.K.Sample.parts c.args.controls.now in
     let ok = given_two (asked p controls) _ c.args.x c.args.y c.ranges.x c.ranges.y c.in_ok-may_read.ensures in
-    let sample = given_two (λ x y. sampled g.K.Sample.count p controls (nat_abs x) (nat_abs y)) _ c.args.x c.args.y c.ranges.x c.ranges.y c.in_ok-sample.ensures in
+    let sample = given_two (λ x y. sampled g.K.Sample.PARTS p controls (nat_abs x) (nat_abs y)) _ c.args.x c.args.y c.ranges.x c.ranges.y c.in_ok-sample.ensures in
     let near = given_two (λ x y. tolerance p (nat_abs x) (nat_abs y)) _ c.args.x c.args.y c.ranges.x c.ranges.y c.tolerance.ensures in
-    stated_all g.K.Sample.count p controls (nat_abs c.args.x) (nat_abs c.args.y) (g.K.Sample.parts c.in_ok-sample.sample) c.tolerance.result sample near
-    ∙ sym (read_past p controls c.args.x c.args.y g.K.Sample.count ok)
+    stated_all g.K.Sample.PARTS p controls (nat_abs c.args.x) (nat_abs c.args.y) (g.K.Sample.parts c.in_ok-sample.sample) c.tolerance.result sample near
+    ∙ sym (read_past p controls c.args.x c.args.y g.K.Sample.PARTS ok)

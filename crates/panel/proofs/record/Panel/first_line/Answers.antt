@@ -10,16 +10,16 @@ returns g c =
     let f = g.K.Sample.parts in
     let p = c.args.self.now in
     let solver = g.S.LineSolver.meaning in
-    let answer = given_one (first_answer g.K.Sample.count p (map f c.args.samples.now) (map f c.args.halves.now)) _ c.args.line c.ranges.line c.run_first.ensures.answer in
-    let panel = given_one (first_panel g.K.Sample.count p solver (map f c.args.samples.now) (map f c.args.halves.now)) _ c.args.line c.ranges.line c.run_first.ensures.panel in
-    let after = given_one (first_halves g.K.Sample.count p solver (map f c.args.samples.now) (map f c.args.halves.now)) _ c.args.line c.ranges.line c.run_first.ensures.after in
+    let answer = given_one (first_answer g.K.Sample.PARTS p (map f c.args.samples.now) (map f c.args.halves.now)) _ c.args.line c.ranges.line c.run_first.ensures.answer in
+    let panel = given_one (first_panel g.K.Sample.PARTS p solver (map f c.args.samples.now) (map f c.args.halves.now)) _ c.args.line c.ranges.line c.run_first.ensures.panel in
+    let after = given_one (first_halves g.K.Sample.PARTS p solver (map f c.args.samples.now) (map f c.args.halves.now)) _ c.args.line c.ranges.line c.run_first.ensures.after in
     record {
       answer = answer;
       panel = panel;
       after = after;
       same = c.run_first.ensures.same;
       reached = λ made controls h reached. (
-        answer ∙ first_accepted g.K.Sample.count made (state p (map f c.args.samples.now) (map f c.args.halves.now) controls) h reached c.args.line,
-        first_reaches g.K.Sample.count made h p (map f c.args.samples.now) (map f c.args.halves.now) controls reached solver g.met.S.LineSolver.sound c.args.line _ _ _ answer panel after,
+        answer ∙ first_accepted g.K.Sample.PARTS made (state p (map f c.args.samples.now) (map f c.args.halves.now) controls) h reached c.args.line,
+        first_reaches g.K.Sample.PARTS made h p (map f c.args.samples.now) (map f c.args.halves.now) controls reached solver g.met.S.LineSolver.sound c.args.line _ _ _ answer panel after,
       );
     }

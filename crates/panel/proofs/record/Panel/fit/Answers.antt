@@ -13,6 +13,6 @@ returns g c =
       controls = done.controls;
       same = done.same;
       reached = λ made h reached.
-          fit_reaches g.K.Sample.count made g.S.LineSolver.meaning g.met.S.LineSolver.sound g.T.LineSolver.meaning g.met.T.LineSolver.sound
+          fit_reaches g.K.Sample.PARTS made g.S.LineSolver.meaning g.met.S.LineSolver.sound g.T.LineSolver.meaning g.met.T.LineSolver.sound
           c.args.self.now (map f c.args.samples.now) (map f c.args.halves.now) (map f c.args.controls.now) h reached _ _ _ _ done.answer done.panel done.halves done.controls;
     }

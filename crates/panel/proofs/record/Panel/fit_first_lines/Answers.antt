@@ -12,7 +12,7 @@ returns-in_err-first_line g c =
     let fits : SFits w32 c.line_number.result = search rules in
     let number = given c.line_number.result fits ∙ c.line_number.ensures in
     let low = subst (λ n. c.loop-i.i < n) c.first_lines-i-end.ensures.value c.loop-i-test.true in
-    let taken = first_turn g.K.Sample.count p by source (map f c.args.halves.now) c.requires c.loop-i.self (map f c.loop-i.halves) _ c.loop-i.i c.loop-i.invariant.0 c.loop-i.invariant.1 number low in
+    let taken = first_turn g.K.Sample.PARTS p by source (map f c.args.halves.now) c.requires c.loop-i.self (map f c.loop-i.halves) _ c.loop-i.i c.loop-i.invariant.0 c.loop-i.invariant.1 number low in
     let refused = c.in_err-first_line.ensures.answer in
     let z : ◌≡◌ {A = ℕ} 0 1 = cc in
     absurd (omega arith)
@@ -27,6 +27,6 @@ loop-i-preserved g c =
     let number = given c.line_number.result fits ∙ c.line_number.ensures in
     let low = subst (λ n. c.loop-i.i < n) c.first_lines-i-end.ensures.value c.loop-i-test.true in
     let done = c.in_ok-first_line.ensures in (
-      done.panel ∙ first_turn_panel g.K.Sample.count p by source (map f c.args.halves.now) c.requires c.loop-i.self (map f c.loop-i.halves) _ c.loop-i.i c.loop-i.invariant.0 c.loop-i.invariant.1 number low,
-      done.after ∙ first_turn_halves g.K.Sample.count p by source (map f c.args.halves.now) c.requires c.loop-i.self (map f c.loop-i.halves) _ c.loop-i.i c.loop-i.invariant.0 c.loop-i.invariant.1 number low,
+      done.panel ∙ first_turn_panel g.K.Sample.PARTS p by source (map f c.args.halves.now) c.requires c.loop-i.self (map f c.loop-i.halves) _ c.loop-i.i c.loop-i.invariant.0 c.loop-i.invariant.1 number low,
+      done.after ∙ first_turn_halves g.K.Sample.PARTS p by source (map f c.args.halves.now) c.requires c.loop-i.self (map f c.loop-i.halves) _ c.loop-i.i c.loop-i.invariant.0 c.loop-i.invariant.1 number low,
     )

@@ -12,7 +12,7 @@ returns-in_err-second_line g c =
     let fits : SFits w32 c.line_number.result = search rules in
     let number = given c.line_number.result fits ∙ c.line_number.ensures in
     let low = subst (λ n. c.loop-j.j < n) c.second_lines-j-end.ensures.value c.loop-j-test.true in
-    let taken = second_turn g.K.Sample.count p by source (map f c.args.controls.now) c.requires.0 c.requires.1 c.loop-j.self (map f c.loop-j.controls) _ c.loop-j.j c.loop-j.invariant.0 c.loop-j.invariant.1 number low in
+    let taken = second_turn g.K.Sample.PARTS p by source (map f c.args.controls.now) c.requires.0 c.requires.1 c.loop-j.self (map f c.loop-j.controls) _ c.loop-j.j c.loop-j.invariant.0 c.loop-j.invariant.1 number low in
     let refused = c.in_err-second_line.ensures.answer in
     let z : ◌≡◌ {A = ℕ} 0 1 = cc in
     absurd (omega arith)
@@ -27,6 +27,6 @@ loop-j-preserved g c =
     let number = given c.line_number.result fits ∙ c.line_number.ensures in
     let low = subst (λ n. c.loop-j.j < n) c.second_lines-j-end.ensures.value c.loop-j-test.true in
     let done = c.in_ok-second_line.ensures in (
-      done.panel ∙ second_turn_panel g.K.Sample.count p by source (map f c.args.controls.now) c.requires.0 c.requires.1 c.loop-j.self (map f c.loop-j.controls) _ c.loop-j.j c.loop-j.invariant.0 c.loop-j.invariant.1 number low,
-      done.after ∙ second_turn_controls g.K.Sample.count p by source (map f c.args.controls.now) c.requires.0 c.requires.1 c.loop-j.self (map f c.loop-j.controls) _ c.loop-j.j c.loop-j.invariant.0 c.loop-j.invariant.1 number low,
+      done.panel ∙ second_turn_panel g.K.Sample.PARTS p by source (map f c.args.controls.now) c.requires.0 c.requires.1 c.loop-j.self (map f c.loop-j.controls) _ c.loop-j.j c.loop-j.invariant.0 c.loop-j.invariant.1 number low,
+      done.after ∙ second_turn_controls g.K.Sample.PARTS p by source (map f c.args.controls.now) c.requires.0 c.requires.1 c.loop-j.self (map f c.loop-j.controls) _ c.loop-j.j c.loop-j.invariant.0 c.loop-j.invariant.1 number low,
     )

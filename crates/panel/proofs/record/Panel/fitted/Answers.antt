@@ -22,8 +22,8 @@ fit_second_lines-requires g c =
     let long : length p.first ≡ 64 = c.in_ok-may_fit.ensures.marks in
     let low : first_lines p ≤ length p.first = omega arith in
     let panel = c.fit_first_lines.ensures.panel in (
-      subst₂ (λ q halves. SecondReady g.K.Sample.count q halves controls) (sym panel) (sym c.fit_first_lines.ensures.after)
-          (ready_for_second g.K.Sample.count p first g.met.S.LineSolver.sound (map f c.args.samples.now) (map f c.args.halves.now) controls ready.0 ready.1),
+      subst₂ (λ q halves. SecondReady g.K.Sample.PARTS q halves controls) (sym panel) (sym c.fit_first_lines.ensures.after)
+          (ready_for_second g.K.Sample.PARTS p first g.met.S.LineSolver.sound (map f c.args.samples.now) (map f c.args.halves.now) controls ready.0 ready.1),
       subst (λ q. all_current (first_lines q) q.first ≡ true) (sym panel) (all_ran_current p.first first.grade (first_lines p) low),
     )
 
@@ -39,6 +39,6 @@ returns g c =
       answer = sym ok;
       panel = rw ok (c.fit_second_lines.ensures.panel ∙ ap (λ q. seconds_panel q second (second_lines q)) panel);
       halves = rw ok halves;
-      controls = rw ok (c.fit_second_lines.ensures.after ∙ ap₂ (λ q half. controls_fitted g.K.Sample.count q second half (map f c.args.controls.now) (second_lines q)) panel halves);
+      controls = rw ok (c.fit_second_lines.ensures.after ∙ ap₂ (λ q half. controls_fitted g.K.Sample.PARTS q second half (map f c.args.controls.now) (second_lines q)) panel halves);
       same = λ wrong. absurd (false≢true wrong);
     }

@@ -13,7 +13,7 @@ returns g c =
     let answer = given_two (λ m n. make_result m n c.args.order samples halves controls) c.made.result c.args.rows c.args.columns c.ranges.rows c.ranges.columns c.made.ensures in
     record {
       answer = answer;
-      surface = make_has_surface g.K.Sample.count c.args.rows c.args.columns c.args.order samples halves controls c.made.result answer;
-      reached = make_begins g.K.Sample.count c.args.rows c.args.columns c.args.order samples halves controls c.made.result answer
-          (whole_grid f g.K.Sample.count g.met.K.Sample.counted.2 c.args.samples.now);
+      surface = make_has_surface g.K.Sample.PARTS c.args.rows c.args.columns c.args.order samples halves controls c.made.result answer;
+      reached = make_begins g.K.Sample.PARTS c.args.rows c.args.columns c.args.order samples halves controls c.made.result answer
+          (whole_grid f g.K.Sample.PARTS g.met.K.Sample.counted.2 c.args.samples.now);
     }

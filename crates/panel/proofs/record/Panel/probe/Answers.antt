@@ -16,6 +16,6 @@ returns g c =
       after = after;
       same = rw (row, column) at c.put.ensures.same;
       reached = λ made halves controls h reached.
-          probe_reaches g.K.Sample.count made h c.args.self.now (map g.K.Sample.parts c.args.samples.now) halves controls reached
+          probe_reaches g.K.Sample.PARTS made h c.args.self.now (map g.K.Sample.parts c.args.samples.now) halves controls reached
           c.args.row c.args.column (g.K.Sample.parts c.args.new) _ _ _ (g.met.K.Sample.counted.2 c.args.new) answer panel after;
     }

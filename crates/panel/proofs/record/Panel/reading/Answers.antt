@@ -22,7 +22,7 @@ returns-in_default g c =
     let p = c.args.self.now in
     let controls = map g.K.Sample.parts c.args.controls.now in
     let out = none_read (within_reach (around p controls (c.loop-k.k + 1) c.args.x c.args.y)) (reading p controls c.args.x c.args.y (c.loop-k.k + 1)) c.in_default.ensures in
-    sampled_beyond g.K.Sample.count p controls c.args.x c.args.y (within_out p controls c.args.x c.args.y c.loop-k.k g.K.Sample.count (omega (arith, c.part_count-k-end.ensures)) out)
+    sampled_beyond g.K.Sample.PARTS p controls c.args.x c.args.y (within_out p controls c.args.x c.args.y c.loop-k.k g.K.Sample.PARTS (omega (arith, c.PARTS-k-end.ensures)) out)
 
 pub loop-k-preserved : goal.loop-k-preserved
 loop-k-preserved g c =
@@ -34,7 +34,7 @@ loop-k-preserved g c =
     let read = some_read (within_reach (around p controls (c.loop-k.k + 1) c.args.x c.args.y)) c.in-Some.part (reading p controls c.args.x c.args.y (c.loop-k.k + 1)) c.in-Some.ensures in (
       within_more p controls c.args.x c.args.y c.loop-k.k c.loop-k.invariant.0 read.0,
       λ j low. ap (λ v. get_or v j (pos 0)) (c.replace_part-sample.ensures ∙ with_part_is v c.loop-k.k _)
-          ∙ wrote (λ j. reading p controls c.args.x c.args.y (j + 1)) v c.loop-k.k _ (to_z-of_z w32 c.in-Some.part fits ∙ read.1) (omega (arith, c.part_count-k-end.ensures)) c.loop-k.invariant.1 j low,
+          ∙ wrote (λ j. reading p controls c.args.x c.args.y (j + 1)) v c.loop-k.k _ (to_z-of_z w32 c.in-Some.part fits ∙ read.1) (omega (arith, c.PARTS-k-end.ensures)) c.loop-k.invariant.1 j low,
     )
 
 pub returns : goal.returns
@@ -42,8 +42,8 @@ returns g c =
     let p = c.args.self.now in
     let controls = map g.K.Sample.parts c.args.controls.now in
     let part = reading p controls c.args.x c.args.y in
-    let done : c.loop-k.k ≡ g.K.Sample.count = omega (arith, c.part_count-k-end.ensures) in
-    sampled_all g.K.Sample.count p controls c.args.x c.args.y (g.K.Sample.parts c.loop-k.sample)
+    let done : c.loop-k.k ≡ g.K.Sample.PARTS = omega (arith, c.PARTS-k-end.ensures) in
+    sampled_all g.K.Sample.PARTS p controls c.args.x c.args.y (g.K.Sample.parts c.loop-k.sample)
     (subst (λ k. needed_within k p controls c.args.x c.args.y ≡ true) done c.loop-k.invariant.0)
-    (fill_by_all (λ j. part (j + 1)) (g.K.Sample.parts c.loop-k.sample) g.K.Sample.count (pos 0) (g.met.K.Sample.counted.2 c.loop-k.sample) (λ j low. c.loop-k.invariant.1 j (omega (arith, c.part_count-k-end.ensures)))
-    ∙ shifted (λ j. part (j + 1)) part g.K.Sample.count (λ e low. refl))
+    (fill_by_all (λ j. part (j + 1)) (g.K.Sample.parts c.loop-k.sample) g.K.Sample.PARTS (pos 0) (g.met.K.Sample.counted.2 c.loop-k.sample) (λ j low. c.loop-k.invariant.1 j (omega (arith, c.PARTS-k-end.ensures)))
+    ∙ shifted (λ j. part (j + 1)) part g.K.Sample.PARTS (λ e low. refl))

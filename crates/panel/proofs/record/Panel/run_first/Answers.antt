@@ -14,7 +14,7 @@ returns-in_err-may_run g c =
     let p = c.args.self.now in
     let line = to_z-of_z w32 c.args.line c.ranges.line in
     let refused = rw (line, c.first_lines.ensures.value) at c.in_err-may_run.ensures in
-    let out = first_out g.K.Sample.count p (map f c.args.samples.now) (map f c.args.halves.now) c.args.line _ (sym refused) in
+    let out = first_out g.K.Sample.PARTS p (map f c.args.samples.now) (map f c.args.halves.now) c.args.line _ (sym refused) in
     record { answer = exit _ c.from_residual.ensures.1 ∙ sym out; panel = rw out refl; after = rw out refl; same = λ _. refl }
 
 pub solve_parts-solved-requires : goal.solve_parts-solved-requires
@@ -35,8 +35,8 @@ returns-in_err-store_solved g c =
     let ok = rw (line, c.first_lines.ensures.value) at c.in_ok-may_run.ensures in
     let n = numbered f p c.args.samples.now c.args.halves.now c.args.line (first_lines p) (sym ok) in
     let lane = rw line at c.first_lane-lane.ensures in
-    let no : first_answer g.K.Sample.count p (map f c.args.samples.now) (map f c.args.halves.now) c.args.line ≡ Err _ =
-    first_past g.K.Sample.count p (map f c.args.samples.now) (map f c.args.halves.now) c.args.line (sym ok) ∙ sym (ap as_answer c.in_err-store_solved.ensures.answer ∙ rw line at c.solve_parts-solved.ensures.answer ∙ first_takes g.K.Sample.count p (map f c.args.samples.now) (nat_abs c.args.line) (nat_abs c.args.line) _ refl lane) in
+    let no : first_answer g.K.Sample.PARTS p (map f c.args.samples.now) (map f c.args.halves.now) c.args.line ≡ Err _ =
+    first_past g.K.Sample.PARTS p (map f c.args.samples.now) (map f c.args.halves.now) c.args.line (sym ok) ∙ sym (ap as_answer c.in_err-store_solved.ensures.answer ∙ rw line at c.solve_parts-solved.ensures.answer ∙ first_takes g.K.Sample.PARTS p (map f c.args.samples.now) (nat_abs c.args.line) (nat_abs c.args.line) _ refl lane) in
     record { answer = exit _ c.from_residual-in_err-store_solved.ensures.1 ∙ sym no; panel = rw no refl; after = rw no c.in_err-store_solved.ensures.after; same = λ _. c.in_err-store_solved.ensures.same refl }
 
 pub store_solved-requires : goal.store_solved-requires
@@ -59,13 +59,13 @@ returns g c =
     let ok = rw (line, c.first_lines.ensures.value) at c.in_ok-may_run.ensures in
     let n = numbered f p c.args.samples.now c.args.halves.now c.args.line (first_lines p) (sym ok) in
     let lane = rw line at c.first_lane-lane.ensures in
-    let done : first_answer g.K.Sample.count p (map f c.args.samples.now) (map f c.args.halves.now) c.args.line ≡ Ok tt =
-    first_past g.K.Sample.count p (map f c.args.samples.now) (map f c.args.halves.now) c.args.line (sym ok) ∙ sym (ap as_answer c.in_ok-store_solved.ensures.answer ∙ rw line at c.solve_parts-solved.ensures.answer ∙ first_takes g.K.Sample.count p (map f c.args.samples.now) (nat_abs c.args.line) (nat_abs c.args.line) _ refl lane) in
+    let done : first_answer g.K.Sample.PARTS p (map f c.args.samples.now) (map f c.args.halves.now) c.args.line ≡ Ok tt =
+    first_past g.K.Sample.PARTS p (map f c.args.samples.now) (map f c.args.halves.now) c.args.line (sym ok) ∙ sym (ap as_answer c.in_ok-store_solved.ensures.answer ∙ rw line at c.solve_parts-solved.ensures.answer ∙ first_takes g.K.Sample.PARTS p (map f c.args.samples.now) (nat_abs c.args.line) (nat_abs c.args.line) _ refl lane) in
     let h = c.solve_parts-solved.ensures.filled (sym c.in_ok-store_solved.ensures.answer) in
     record {
       answer = sym done;
       panel = rw (done, ← c.graded.ensures) (rw line at c.first_ran.ensures);
-      after = rw done (c.in_ok-store_solved.ensures.after ∙ first_stored g.K.Sample.count p (map f c.args.samples.now) (nat_abs c.args.line) (nat_abs c.args.line) _ refl g.S.LineSolver.meaning (map f c.args.halves.now) c.solve_parts-solved.new.fitted
+      after = rw done (c.in_ok-store_solved.ensures.after ∙ first_stored g.K.Sample.PARTS p (map f c.args.samples.now) (nat_abs c.args.line) (nat_abs c.args.line) _ refl g.S.LineSolver.meaning (map f c.args.halves.now) c.solve_parts-solved.new.fitted
           (length-map c.args.halves.now f ∙ n.long_ys) lane n.on h.1);
       same = λ no. absurd (false≢true no);
     }

@@ -16,7 +16,7 @@ returns-in_err-may_run g c =
     let p = c.args.self.now in
     let line = to_z-of_z w32 c.args.line c.ranges.line in
     let refused = rw (line, c.second_lines.ensures.value) at c.in_err-may_run.ensures in
-    let out = second_out g.K.Sample.count p (map f c.args.halves.now) (map f c.args.controls.now) c.args.line _ (sym refused) in
+    let out = second_out g.K.Sample.PARTS p (map f c.args.halves.now) (map f c.args.controls.now) c.args.line _ (sym refused) in
     record { answer = exit _ c.from_residual.ensures.1 ∙ sym out; panel = rw out refl; after = rw out refl; same = λ _. refl }
 
 pub returns-in_err-check : goal.returns-in_err-check
@@ -26,7 +26,7 @@ returns-in_err-check g c =
     let line = to_z-of_z w32 c.args.line c.ranges.line in
     let ok = rw (line, c.second_lines.ensures.value) at c.in_ok-may_run.ensures in
     let stale = rw c.first_lines_are_current.ensures at (sym c.in_err-check.ensures) in
-    let out = second_stale g.K.Sample.count p (map f c.args.halves.now) (map f c.args.controls.now) c.args.line _ (sym ok) stale in
+    let out = second_stale g.K.Sample.PARTS p (map f c.args.halves.now) (map f c.args.controls.now) c.args.line _ (sym ok) stale in
     record { answer = exit _ c.from_residual-in_err-check.ensures.1 ∙ sym out; panel = rw out refl; after = rw out refl; same = λ _. refl }
 
 pub solve_parts-solved-requires : goal.solve_parts-solved-requires
@@ -48,8 +48,8 @@ returns-in_err-store_solved g c =
     let n = numbered f p c.args.halves.now c.args.controls.now c.args.line (second_lines p) (sym ok) in
     let lane = rw line at c.second_lane-lane.ensures in
     let fresh : check (all_current (first_lines p) p.first) FirstStale ≡ Ok tt = rw c.first_lines_are_current.ensures at (sym c.in_ok-check.ensures) in
-    let no : second_answer g.K.Sample.count p (map f c.args.halves.now) (map f c.args.controls.now) c.args.line ≡ Err _ =
-    second_past g.K.Sample.count p (map f c.args.halves.now) (map f c.args.controls.now) c.args.line (sym ok) fresh ∙ sym (ap as_answer c.in_err-store_solved.ensures.answer ∙ rw line at c.solve_parts-solved.ensures.answer ∙ second_takes g.K.Sample.count p (map f c.args.halves.now) (nat_abs c.args.line) (nat_abs c.args.line) _ refl lane) in
+    let no : second_answer g.K.Sample.PARTS p (map f c.args.halves.now) (map f c.args.controls.now) c.args.line ≡ Err _ =
+    second_past g.K.Sample.PARTS p (map f c.args.halves.now) (map f c.args.controls.now) c.args.line (sym ok) fresh ∙ sym (ap as_answer c.in_err-store_solved.ensures.answer ∙ rw line at c.solve_parts-solved.ensures.answer ∙ second_takes g.K.Sample.PARTS p (map f c.args.halves.now) (nat_abs c.args.line) (nat_abs c.args.line) _ refl lane) in
     record { answer = exit _ c.from_residual-in_err-store_solved.ensures.1 ∙ sym no; panel = rw no refl; after = rw no c.in_err-store_solved.ensures.after; same = λ _. c.in_err-store_solved.ensures.same refl }
 
 pub store_solved-requires : goal.store_solved-requires
@@ -73,13 +73,13 @@ returns g c =
     let n = numbered f p c.args.halves.now c.args.controls.now c.args.line (second_lines p) (sym ok) in
     let lane = rw line at c.second_lane-lane.ensures in
     let fresh : check (all_current (first_lines p) p.first) FirstStale ≡ Ok tt = rw c.first_lines_are_current.ensures at (sym c.in_ok-check.ensures) in
-    let done : second_answer g.K.Sample.count p (map f c.args.halves.now) (map f c.args.controls.now) c.args.line ≡ Ok tt =
-    second_past g.K.Sample.count p (map f c.args.halves.now) (map f c.args.controls.now) c.args.line (sym ok) fresh ∙ sym (ap as_answer c.in_ok-store_solved.ensures.answer ∙ rw line at c.solve_parts-solved.ensures.answer ∙ second_takes g.K.Sample.count p (map f c.args.halves.now) (nat_abs c.args.line) (nat_abs c.args.line) _ refl lane) in
+    let done : second_answer g.K.Sample.PARTS p (map f c.args.halves.now) (map f c.args.controls.now) c.args.line ≡ Ok tt =
+    second_past g.K.Sample.PARTS p (map f c.args.halves.now) (map f c.args.controls.now) c.args.line (sym ok) fresh ∙ sym (ap as_answer c.in_ok-store_solved.ensures.answer ∙ rw line at c.solve_parts-solved.ensures.answer ∙ second_takes g.K.Sample.PARTS p (map f c.args.halves.now) (nat_abs c.args.line) (nat_abs c.args.line) _ refl lane) in
     let h = c.solve_parts-solved.ensures.filled (sym c.in_ok-store_solved.ensures.answer) in
     record {
       answer = sym done;
       panel = rw (done, ← c.graded.ensures) (rw line at c.second_ran.ensures);
-      after = rw done (c.in_ok-store_solved.ensures.after ∙ second_stored g.K.Sample.count p (map f c.args.halves.now) (nat_abs c.args.line) (nat_abs c.args.line) _ refl g.S.LineSolver.meaning (map f c.args.controls.now) c.solve_parts-solved.new.fitted
+      after = rw done (c.in_ok-store_solved.ensures.after ∙ second_stored g.K.Sample.PARTS p (map f c.args.halves.now) (nat_abs c.args.line) (nat_abs c.args.line) _ refl g.S.LineSolver.meaning (map f c.args.controls.now) c.solve_parts-solved.new.fitted
           (length-map c.args.controls.now f ∙ n.long_ys) lane n.on h.1);
       same = λ no. absurd (false≢true no);
     }
