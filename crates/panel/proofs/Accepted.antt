@@ -4,19 +4,15 @@ use Rattle.std.specs.Result.{result_and}
 use Rattle.grid.specs.Checks.{check}
 use Rattle.grid.specs.Grid.{Grid}
 use Rattle.surface.specs.Patch.{all_below}
+use Rattle.surface.proofs.Below.{below_same}
 use Rattle.panel_fault.specs.declared.PanelFault.TheVariants.{NoLine, FirstStale}
-use Rattle.panel.specs.Calls.{State, between, first_lines, second_lines, mark, all_current, first_answer, second_answer}
+use Rattle.panel.specs.Calls.{State, between, first_lines, second_lines, mark, all_current, first_answer, second_answer, is_current}
 use Rattle.panel.specs.Fit.{FirstReady, SecondReady}
 use Rattle.panel.specs.Runs.{History, Reached, first_ran_since, first_refusals, second_refusals}
 use Rattle.panel.proofs.Marked.{each_current}
 use Rattle.panel.proofs.Every.{invariant}
 use Rattle.panel.proofs.Bounds.{halves_low}
 use Rattle.panel.proofs.Ready.{first_when, second_when}
-
--- tests that agree at every number below n
-below_same : (n : ℕ) (f g : ℕ → Bool) → ((i : ℕ) → i < n → f i ≡ g i) → all_below n f ≡ all_below n g
-below_same zero f g e = refl
-below_same (suc n) f g e = ap₂ ◌&&◌ (e n (omega arith)) (below_same n f g (λ i h. e i (omega arith)))
 
 module _ (parts : ℕ) (m : Grid) (st : State) (h : History) (reached : Reached parts m st h) where
   pub first_ready : FirstReady st.panel st.samples st.halves
@@ -43,7 +39,7 @@ module _ (parts : ℕ) (m : Grid) (st : State) (h : History) (reached : Reached 
   -- The marks of first lines are what the history says.
   all_current_is : all_current (first_lines st.panel) st.panel.first ≡ all_below (first_lines st.panel) (λ i. first_ran_since st.panel.order h (i + 1))
   all_current_is =
-      below_same (first_lines st.panel) (λ i. (mark st.panel.first (i + 1)).current) (λ i. first_ran_since st.panel.order h (i + 1))
+      below_same (first_lines st.panel) (λ i. is_current (mark st.panel.first (i + 1))) (λ i. first_ran_since st.panel.order h (i + 1))
       (λ i low. (invariant reached).first_current (i + 1) (omega arith))
 
   -- A second line is refused only for its number or a stale first line.

@@ -6,7 +6,7 @@ use Rattle.line.proofs.Doubled.{doubled}
 use Rattle.std.specs.List.{AllByRecursion}
 use Rattle.grid.specs.Grid.{Grid}
 use Rattle.panel.specs.declared.record.Panel.{Panel}
-use Rattle.panel.specs.Calls.{State, pick, first_lines, second_lines, meeting, mark}
+use Rattle.panel.specs.Calls.{State, pick, first_lines, second_lines, meeting, mark, is_current}
 use Rattle.panel.specs.Runs.{History, ran_since, first_grade, second_grade}
 use Rattle.panel.proofs.Passed.{Low, low_at}
 use Rattle.panel.proofs.Fits.{FirstFits}
@@ -18,11 +18,11 @@ pub fitted_low : (p : Panel) (samples halves : Grid) (part i g : ℕ) → AllByR
     nat_abs (meeting p halves part i j) ≤ 4800006
 fitted_low p samples halves part i g low small fits j on_j =
     let twice = sized (doubled (second_lines p)) (λ j. pos 16 *ℤ meeting p samples part i j) (meeting p halves part i) 1600000 g
-    (λ j _. sixteen_low (meeting p samples part i j) (low_at p.columns samples part (pick p.order i j) (pick p.order j i) low)) fits j on_j in
+    (λ j _. sixteen_low (meeting p samples part i j) (low_at p.size.columns samples part (pick p.order i j) (pick p.order j i) low)) fits j on_j in
     omega arith
 
 module _ (parts : ℕ) (m : Grid) (st : State) (h : History) (inv : Invariant parts m st h) (part : ℕ) (on_part : OnLine parts part) where
-  pub halves_low : (i : ℕ) → OnLine (first_lines st.panel) i → (mark st.panel.first i).current ≡ true → (j : ℕ) → OnLine (second_lines st.panel) j →
+  pub halves_low : (i : ℕ) → OnLine (first_lines st.panel) i → is_current (mark st.panel.first i) ≡ true → (j : ℕ) → OnLine (second_lines st.panel) j →
       nat_abs (meeting st.panel st.halves part i j) ≤ 4800006
   halves_low i on_i current =
       fitted_low st.panel st.samples st.halves part i (first_grade h i) inv.samples_low (inv.first_small i) (inv.first_fit i on_i current part on_part)

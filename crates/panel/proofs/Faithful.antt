@@ -66,7 +66,7 @@ module _ (parts : ℕ) (m : Grid) (st : State) (h : History) (inv : Invariant pa
     (ran : (a : ℕ) → a < 4 → ran_since h (needed st.panel x y a) ≡ true) (part : ℕ) (on_part : OnLine parts part) where
   first_near : (i j : ℕ) → OnLine (first_lines st.panel) i → OnLine (second_lines st.panel) j →
       nat_abs (sum_at (second_lines st.panel) (meeting st.panel st.halves part i) j
-      -ℤ pos 96 *ℤ held st.panel.columns m h part (pick st.panel.order i j) (pick st.panel.order j i)) ≤ first_most st.panel h
+      -ℤ pos 96 *ℤ held st.panel.size.columns m h part (pick st.panel.order i j) (pick st.panel.order j i)) ≤ first_most st.panel h
   first_near i j on_i on_j =
       let p = st.panel in
       let meet = meets p i j on_i on_j in
@@ -83,33 +83,33 @@ module _ (parts : ℕ) (m : Grid) (st : State) (h : History) (inv : Invariant pa
   second_near a a_low i on_i =
       le_trans (inv.second_fit (needed st.panel x y a) (on_needed parts m st h inv x y a) (ran a a_low) part on_part i on_i) (needed_below_most parts m st h inv x y a a_low)
 
-  near_surface : (n : ℕ → ℕ → ℤ) (d : ℕ) → ExactGrid sum_at st.panel.rows st.panel.columns (held st.panel.columns m h part) n d →
-      Near st.panel.rows st.panel.columns n d x y (reading st.panel st.controls x y part) (second_most st.panel h x y + 3 * first_most st.panel h + 1)
+  near_surface : (n : ℕ → ℕ → ℤ) (d : ℕ) → ExactGrid sum_at st.panel.size.rows st.panel.size.columns (held st.panel.size.columns m h part) n d →
+      Near st.panel.size.rows st.panel.size.columns n d x y (reading st.panel st.controls x y part) (second_most st.panel h x y + 3 * first_most st.panel h + 1)
   near_surface n d exact =
       let p = st.panel in
-      let control = at p.columns st.controls part in
+      let control = at p.size.columns st.controls part in
       let g₁ = first_most p h in
       let g₂ = second_most p h x y in
-      reading_near p.rows p.columns control n d x y (g₂ + 3 * g₁) (reading p st.controls x y part)
-      (around_by p.order p.rows p.columns x y (λ r s. 2 * nat_abs (pos d *ℤ control r s -ℤ n r s) ≤ (g₂ + 3 * g₁) * d) (omega (arith, inv.rows_within)) (omega (arith, inv.columns_within))
-      (λ i k on_i k_low. control_near p.order p.rows p.columns (held p.columns m h part) (at p.columns st.halves part) control n d (needed p x y k) g₁ g₂
+      reading_near p.size.rows p.size.columns control n d x y (g₂ + 3 * g₁) (reading p st.controls x y part)
+      (around_by p.order p.size.rows p.size.columns x y (λ r s. 2 * nat_abs (pos d *ℤ control r s -ℤ n r s) ≤ (g₂ + 3 * g₁) * d) (omega (arith, inv.rows_within)) (omega (arith, inv.columns_within))
+      (λ i k on_i k_low. control_near p.order p.size.rows p.size.columns (held p.size.columns m h part) (at p.size.columns st.halves part) control n d (needed p x y k) g₁ g₂
       inv.rows_within.0 inv.columns_within.0 exact (on_needed parts m st h inv x y k) first_near (second_near k k_low) i on_i))
-      (rounded_near (patch_sum p.rows p.columns control x y))
+      (rounded_near (patch_sum p.size.rows p.size.columns control x y))
 
   near_sample : (r s : ℕ) → x ≡ 32 * r → y ≡ 32 * s →
-      6 * nat_abs (reading st.panel st.controls x y part -ℤ pos 16 *ℤ held st.panel.columns m h part r s) ≤ second_most st.panel h x y + first_most st.panel h + 3
+      6 * nat_abs (reading st.panel st.controls x y part -ℤ pos 16 *ℤ held st.panel.size.columns m h part r s) ≤ second_most st.panel h x y + first_most st.panel h + 3
   near_sample r s ex ey =
       let p = st.panel in
-      let control = at p.columns st.controls part in
-      let on_r : OnLine p.rows r = omega arith in
-      let on_s : OnLine p.columns s = omega arith in
+      let control = at p.size.columns st.controls part in
+      let on_r : OnLine p.size.rows r = omega arith in
+      let on_s : OnLine p.size.columns s = omega arith in
       let g₁ = first_most p h in
       let g₂ = second_most p h x y in
       swapped g₁ g₂
-      (sample_near (sum_at p.rows (λ i. sum_at p.columns (control i) s) r) (patch_sum p.rows p.columns control x y) (reading p st.controls x y part) (held p.columns m h part r s) (g₁ + g₂)
-      (patch_on_sample p.rows p.columns control x y r s ex ey on_r on_s)
-      (nine_near p.order p.rows p.columns x y r s (held p.columns m h part) (at p.columns st.halves part) control g₁ g₂ on_r on_s ex ey first_near second_near)
-      (rounded_near (patch_sum p.rows p.columns control x y)))
+      (sample_near (sum_at p.size.rows (λ i. sum_at p.size.columns (control i) s) r) (patch_sum p.size.rows p.size.columns control x y) (reading p st.controls x y part) (held p.size.columns m h part r s) (g₁ + g₂)
+      (patch_on_sample p.size.rows p.size.columns control x y r s ex ey on_r on_s)
+      (nine_near p.order p.size.rows p.size.columns x y r s (held p.size.columns m h part) (at p.size.columns st.halves part) control g₁ g₂ on_r on_s ex ey first_near second_near)
+      (rounded_near (patch_sum p.size.rows p.size.columns control x y)))
     where
       swapped : (a b : ℕ) {n : ℕ} → n ≤ a + b + 3 → n ≤ b + a + 3
       swapped a b h = omega arith
@@ -127,7 +127,7 @@ module _ (parts : ℕ) (m : Grid) (st : State) (h : History) (inv : Invariant pa
       let p = st.panel in
       below_passes parts _ (λ k k_low. below_passes 4 _ (λ a a_low. below_passes 4 _ (λ b b_low.
       le-leb (nat_abs (around p st.controls (k + 1) x y a b)) 16000000
-      (around_by p.order p.rows p.columns x y (λ r s. nat_abs (at p.columns st.controls (k + 1) r s) ≤ 16000000) (omega (arith, inv.rows_within)) (omega (arith, inv.columns_within))
+      (around_by p.order p.size.rows p.size.columns x y (λ r s. nat_abs (at p.size.columns st.controls (k + 1) r s) ≤ 16000000) (omega (arith, inv.rows_within)) (omega (arith, inv.columns_within))
       (λ i q on_i q_low. le_trans (controls_low parts m st h inv (k + 1) (omega arith) (needed p x y q) (on_needed parts m st h inv x y q) (ran q q_low) i on_i) (omega arith)) a b a_low b_low))))
 
   faithful : Faithful parts st.panel m h x y (part_of (map (reading st.panel st.controls x y) (range_with_len 1 parts))) (tolerance st.panel x y)
@@ -136,12 +136,12 @@ module _ (parts : ℕ) (m : Grid) (st : State) (h : History) (inv : Invariant pa
       record {
         ran = ran;
         stated = tolerance_is parts m st h inv x y;
-        has_surface = λ part on_part. some_grid doubled_rule doubled_solvable p.rows p.columns inv.rows_within.0 inv.columns_within.0 (held p.columns m h part);
+        has_surface = λ part on_part. some_grid doubled_rule doubled_solvable p.size.rows p.size.columns inv.rows_within.0 inv.columns_within.0 (held p.size.columns m h part);
         near_surface = λ part on_part n d exact.
-            subst₂ (λ value t. Near p.rows p.columns n d x y value t) (sym (part_counted (reading p st.controls x y) parts part on_part)) (sym (tolerance_is parts m st h inv x y))
+            subst₂ (λ value t. Near p.size.rows p.size.columns n d x y value t) (sym (part_counted (reading p st.controls x y) parts part on_part)) (sym (tolerance_is parts m st h inv x y))
             (near_surface parts m st h inv x y area ran part on_part n d exact);
         near_sample = λ r s ex ey part on_part.
-            subst (λ value. 6 * nat_abs (value -ℤ pos 16 *ℤ held p.columns m h part r s) ≤ second_most p h x y + first_most p h + 3) (sym (part_counted (reading p st.controls x y) parts part on_part))
+            subst (λ value. 6 * nat_abs (value -ℤ pos 16 *ℤ held p.size.columns m h part r s) ≤ second_most p h x y + first_most p h + 3) (sym (part_counted (reading p st.controls x y) parts part on_part))
             (near_sample parts m st h inv x y area ran part on_part r s ex ey);
       }
 

@@ -64,7 +64,7 @@ module _ (parts : ℕ) (p : Panel) (by : Solver) (line part i j : ℕ) (on_part 
       let s = pick p.order j i in
       let f = λ (part : ℕ). place (by.rule (fine_line p samples line part)) (second_of p r s) in
       meeting_gridded p (first_sample parts p by samples halves line) part i j on_i on_j
-      ∙ part_cond (eqb line (first_of p r s)) (map f (range_with_len 1 parts)) (sample_at p.columns halves r s) part (f part) (part_counted f parts part on_part)
+      ∙ part_cond (eqb line (first_of p r s)) (map f (range_with_len 1 parts)) (sample_at p.size.columns halves r s) part (f part) (part_counted f parts part on_part)
       ∙ ap₂ (λ a b. cond (eqb line a) (place (by.rule (fine_line p samples line part)) b) (meeting p halves part i j)) (first_back p.order i j) (second_back p.order i j)
 
   pub second_fitted_at : (halves controls : Grid) →
@@ -74,5 +74,5 @@ module _ (parts : ℕ) (p : Panel) (by : Solver) (line part i j : ℕ) (on_part 
       let s = pick p.order j i in
       let f = λ (part : ℕ). place (by.rule (along_second p halves part line)) (first_of p r s) in
       meeting_gridded p (second_sample parts p by halves controls line) part i j on_i on_j
-      ∙ part_cond (eqb line (second_of p r s)) (map f (range_with_len 1 parts)) (sample_at p.columns controls r s) part (f part) (part_counted f parts part on_part)
+      ∙ part_cond (eqb line (second_of p r s)) (map f (range_with_len 1 parts)) (sample_at p.size.columns controls r s) part (f part) (part_counted f parts part on_part)
       ∙ ap₂ (λ a b. cond (eqb line b) (place (by.rule (along_second p halves part line)) a) (meeting p controls part i j)) (first_back p.order i j) (second_back p.order i j)

@@ -35,8 +35,8 @@ asked p xs ys v lines = result_and (check (sized p xs && sized p ys) GridLength)
 
 pub record Numbered {K : Type 0} (p : Panel) (xs ys : List K) (v : ℤ) (lines : ℕ) : Type 0 where
   pub on : OnLine lines (nat_abs v)
-  pub long_xs : length xs ≡ p.rows * p.columns
-  pub long_ys : length ys ≡ p.rows * p.columns
+  pub long_xs : length xs ≡ p.size.rows * p.size.columns
+  pub long_ys : length ys ≡ p.size.rows * p.size.columns
 
 pub numbered : {K : Type 0} (f : K → List ℤ) (p : Panel) (xs ys : List K) (v : ℤ) (lines : ℕ) → asked p (map f xs) (map f ys) v lines ≡ Ok tt → Numbered p xs ys v lines
 numbered f p xs ys v lines ok =
@@ -44,8 +44,8 @@ numbered f p xs ys v lines ok =
     let n = and_parts (sized p (map f xs)) (sized p (map f ys)) (held _ GridLength t.0) in
     record {
       on = between_is v 1 lines (held _ NoLine t.1);
-      long_xs = sym (length-map xs f) ∙ eqb-true (length (map f xs)) (p.rows * p.columns) n.0;
-      long_ys = sym (length-map ys f) ∙ eqb-true (length (map f ys)) (p.rows * p.columns) n.1;
+      long_xs = sym (length-map xs f) ∙ eqb-true (length (map f xs)) (p.size.rows * p.size.columns) n.0;
+      long_ys = sym (length-map ys f) ∙ eqb-true (length (map f ys)) (p.size.rows * p.size.columns) n.1;
     }
 
 -- Past them, what the solver takes is the answer; a second line also asks that the first lines are current.
@@ -76,7 +76,7 @@ module _ (parts : ℕ) (p : Panel) (xs ys : Grid) (v : ℤ) where
       ∙ over (asked p xs ys v (second_lines p)) _ tt ok ∙ over (check (all_current (first_lines p) p.first) FirstStale) _ tt fresh
 
 -- Where the lane of a line lies, what the solver takes along it, and the grid with it stored.
-module _ (p : Panel) (number : ℕ) (l : Lane) (m : ℕ) (long : m ≡ p.rows * p.columns) where
+module _ (p : Panel) (number : ℕ) (l : Lane) (m : ℕ) (long : m ≡ p.size.rows * p.size.columns) where
   pub first_within : l ≡ first_lane p number → OnLine (first_lines p) number → Inside l m
   first_within e on = rw (e, long) (first_inside p number p.order on)
 
@@ -92,7 +92,7 @@ module _ (parts : ℕ) (p : Panel) (g : Grid) (i number : ℕ) (l : Lane) (is : 
   second_takes e = ap (λ l. solver_takes number 1 parts (laned 1 g l)) e ∙ ap (λ i. solver_takes i 1 parts (laned 1 g (second_lane p i))) is
       ∙ ap (solver_takes i 1 parts) (fun_ext (λ part. second_laned p g i part p.order))
 
-  module _ (by : Solver) (target : Grid) (fitted : List ℤ) (long : length target ≡ p.rows * p.columns) where
+  module _ (by : Solver) (target : Grid) (fitted : List ℤ) (long : length target ≡ p.size.rows * p.size.columns) where
     pub first_stored : l ≡ first_lane p number → OnLine (first_lines p) number → Filled parts l.count by.rule (laned 16 g l) fitted → stored parts l fitted l.count target ≡ first_fitted parts p by g target i
     first_stored e on filled =
         let e' : l ≡ first_lane p i = e ∙ ap (first_lane p) is in

@@ -6,12 +6,13 @@ use Rattle.panel.specs.declared.record.Order.{Order}
 use Rattle.panel_fault.specs.declared.PanelFault.TheVariants.{Size, GridLength}
 use Rattle.grid.specs.Grid.{Grid}
 use Rattle.grid.specs.Checks.{check}
-use Rattle.panel.specs.Calls.{between, unrun, grid_within, make_answer, new_panel}
+use Rattle.panel.specs.Calls.{between, grid_within, make_answer, new_panel, grade_of, is_current}
 use Rattle.grid.proofs.Chains.{both_good, held}
 use Rattle.panel.proofs.Passed.{between_is, low_grid}
 use Rattle.panel.proofs.Invariant.{Invariant, never}
+use Rattle.panel.specs.declared.record.Mark.TheVariants.{Unrun}
 
-unrun_mark : (n k : ℕ) → get_or (replicate n unrun) k unrun ≡ unrun
+unrun_mark : (n k : ℕ) → get_or (replicate n Unrun) k Unrun ≡ Unrun
 unrun_mark zero k = refl
 unrun_mark (suc n) zero = refl
 unrun_mark (suc n) (suc k) = unrun_mark n k
@@ -35,13 +36,13 @@ from_make parts m rows columns o halves controls ok whole =
       samples_held = λ part r s _ _. refl;
       first_long = refl;
       second_long = refl;
-      first_graded = λ i _. ap (λ k. k.grade) (unrun_mark 64 (i - 1));
-      second_graded = λ j _. ap (λ k. k.grade) (unrun_mark 64 (j - 1));
-      first_current = λ i _. ap (λ k. k.current) (unrun_mark 64 (i - 1));
+      first_graded = λ i _. ap grade_of (unrun_mark 64 (i - 1));
+      second_graded = λ j _. ap grade_of (unrun_mark 64 (j - 1));
+      first_current = λ i _. ap is_current (unrun_mark 64 (i - 1));
       first_small = λ i. omega arith;
       second_small = λ j. omega arith;
-      second_current = λ j _. ap (λ k. k.current) (unrun_mark 64 (j - 1));
-      first_fit = λ i _ current. never (sym (ap (λ k. k.current) (unrun_mark 64 (i - 1))) ∙ current);
+      second_current = λ j _. ap is_current (unrun_mark 64 (j - 1));
+      first_fit = λ i _ current. never (sym (ap is_current (unrun_mark 64 (i - 1))) ∙ current);
       all_first = λ j _ ran. never ran;
       second_fit = λ j _ ran. never ran;
     }

@@ -6,7 +6,7 @@ use Rattle.line.specs.Line.{OnLine, clamped}
 use Rattle.panel.specs.declared.record.Order.{Order}
 use Rattle.panel.specs.declared.record.Order.TheVariants.{RowsFirst, ColumnsFirst}
 use Rattle.grid.specs.Grid.{Grid}
-use Rattle.panel.specs.Calls.{State, pick, first_lines, second_lines, mark}
+use Rattle.panel.specs.Calls.{State, pick, first_lines, second_lines, mark, grade_of, is_current}
 use Rattle.panel.specs.Reading.{needed, needed_current, greatest, tolerance}
 use Rattle.panel.specs.Runs.{History, ran_since, first_grade, second_grade, first_most, second_most}
 use Rattle.panel.proofs.Fits.{on_clamped}
@@ -54,20 +54,20 @@ module _ (parts : ℕ) (m : Grid) (st : State) (h : History) (inv : Invariant pa
   -- the marks that read asks are what the history says
   pub needed_ran : needed_current st.panel x y ≡ true → (a : ℕ) → a < 4 → ran_since h (needed st.panel x y a) ≡ true
   unfolding needed_current
-  needed_ran e a b = sym (inv.second_current (needed st.panel x y a) (on_needed a)) ∙ at_below 4 (λ a. (mark st.panel.second (needed st.panel x y a)).current) e a b
+  needed_ran e a b = sym (inv.second_current (needed st.panel x y a) (on_needed a)) ∙ at_below 4 (λ a. is_current (mark st.panel.second (needed st.panel x y a))) e a b
 
   pub needed_stale : needed_current st.panel x y ≡ false → (a : ℕ) × (a < 4) × (ran_since h (needed st.panel x y a) ≡ false)
   unfolding needed_current
   needed_stale e =
-      let (a, b, f) = fails_below 4 (λ a. (mark st.panel.second (needed st.panel x y a)).current) e in
+      let (a, b, f) = fails_below 4 (λ a. is_current (mark st.panel.second (needed st.panel x y a))) e in
       (a, b, sym (inv.second_current (needed st.panel x y a) (on_needed a)) ∙ f)
 
   -- and so are the grades
   pub tolerance_is : tolerance st.panel x y ≡ second_most st.panel h x y + 3 * first_most st.panel h + 1
   tolerance_is =
       ap₂ (λ a b. a + 3 * b + 1)
-      (greatest_same (λ a. (mark st.panel.second (needed st.panel x y (a - 1))).grade) (λ a. second_grade h (needed st.panel x y (a - 1))) 4 (λ a on. inv.second_graded _ (on_needed (a - 1))))
-      (greatest_same (λ i. (mark st.panel.first i).grade) (first_grade h) (first_lines st.panel) (λ i on. inv.first_graded i on))
+      (greatest_same (λ a. grade_of (mark st.panel.second (needed st.panel x y (a - 1)))) (λ a. second_grade h (needed st.panel x y (a - 1))) 4 (λ a on. inv.second_graded _ (on_needed (a - 1))))
+      (greatest_same (λ i. grade_of (mark st.panel.first i)) (first_grade h) (first_lines st.panel) (λ i on. inv.first_graded i on))
 
   pub needed_below_most : (a : ℕ) → a < 4 → second_grade h (needed st.panel x y a) ≤ second_most st.panel h x y
   needed_below_most a b = subst (λ k. second_grade h (needed st.panel x y k) ≤ second_most st.panel h x y) (omega arith) (greatest_above (λ a. second_grade h (needed st.panel x y (a - 1))) 4 (a + 1) (omega arith))

@@ -68,16 +68,16 @@ all_taken line k (suc n) lines h part low high =
 
 -- Where an accepted probe stands.
 pub record Probing (p : Panel) (samples : Grid) (row column : ℤ) : Type 0 where
-  pub on_row : OnLine p.rows (nat_abs row)
-  pub on_column : OnLine p.columns (nat_abs column)
-  pub within : index p.columns (nat_abs row) (nat_abs column) < length samples
+  pub on_row : OnLine p.size.rows (nat_abs row)
+  pub on_column : OnLine p.size.columns (nat_abs column)
+  pub within : index p.size.columns (nat_abs row) (nat_abs column) < length samples
 
 pub probing : (p : Panel) (samples : Grid) (row column : ℤ) (new : List ℤ) → probe_answer p samples row column new ≡ Ok tt → Probing p samples row column
 probing p samples row column new ok =
     let a = both_good (check (sized p samples) GridLength) _ ok in
-    let b = both_good (check (between row 1 p.rows && between column 1 p.columns) Place) _ a.1 in
-    let on = and_parts (between row 1 p.rows) (between column 1 p.columns) (held _ _ b.0) in
-    let on_r = between_is row 1 p.rows on.0 in
-    let on_s = between_is column 1 p.columns on.1 in
-    let long = eqb-true (length samples) (p.rows * p.columns) (held _ _ a.0) in
-    record { on_row = on_r; on_column = on_s; within = omega (arith, index_within p.rows p.columns (nat_abs row) (nat_abs column) on_r on_s) }
+    let b = both_good (check (between row 1 p.size.rows && between column 1 p.size.columns) Place) _ a.1 in
+    let on = and_parts (between row 1 p.size.rows) (between column 1 p.size.columns) (held _ _ b.0) in
+    let on_r = between_is row 1 p.size.rows on.0 in
+    let on_s = between_is column 1 p.size.columns on.1 in
+    let long = eqb-true (length samples) (p.size.rows * p.size.columns) (held _ _ a.0) in
+    record { on_row = on_r; on_column = on_s; within = omega (arith, index_within p.size.rows p.size.columns (nat_abs row) (nat_abs column) on_r on_s) }

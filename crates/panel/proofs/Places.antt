@@ -26,11 +26,11 @@ pub column_back : (columns r s : ℕ) → 1 ≤ r → OnLine columns s → index
 column_back columns r s h on = omega (arith, mod-mul-add (r - 1) columns (s - 1) (omega arith))
 
 -- A grid made from a function has its values.
-pub sample_gridded : (p : Panel) (f : ℕ → ℕ → List ℤ) (r s : ℕ) → OnLine p.rows r → OnLine p.columns s → sample_at p.columns (gridded p f) r s ≡ f r s
+pub sample_gridded : (p : Panel) (f : ℕ → ℕ → List ℤ) (r s : ℕ) → OnLine p.size.rows r → OnLine p.size.columns s → sample_at p.size.columns (gridded p f) r s ≡ f r s
 sample_gridded p f r s on_r on_s =
-    let k = index p.columns r s in
-    get_or-map-range_with_len (λ k. f (k / p.columns + 1) (k % p.columns + 1)) 0 (p.rows * p.columns) k k [] (index_within p.rows p.columns r s on_r on_s) (omega arith)
-    ∙ ap₂ f (row_back p.columns r s on_r.0 on_s) (column_back p.columns r s on_r.0 on_s)
+    let k = index p.size.columns r s in
+    get_or-map-range_with_len (λ k. f (k / p.size.columns + 1) (k % p.size.columns + 1)) 0 (p.size.rows * p.size.columns) k k [] (index_within p.size.rows p.size.columns r s on_r on_s) (omega arith)
+    ∙ ap₂ f (row_back p.size.columns r s on_r.0 on_s) (column_back p.size.columns r s on_r.0 on_s)
 
 -- A list with one element changed.
 pub get_or-set : {X : Type 0} (xs : List X) (i j : ℕ) (v d : X) → i < length xs → get_or (set xs i v) j d ≡ cond (eqb j i) v (get_or xs j d)
@@ -57,10 +57,10 @@ sample_set rows columns g r' s' r s new long on_r' on_s' on_r on_s =
     ∙ ap (λ b. cond b new (sample_at columns g r s)) (index_same columns r' s' r s on_r'.0 on_s' on_r.0 on_s)
 
 -- The place where first line i and second line j meet.
-pub meets : (p : Panel) (i j : ℕ) → OnLine (first_lines p) i → OnLine (second_lines p) j → OnLine p.rows (pick p.order i j) × OnLine p.columns (pick p.order j i)
+pub meets : (p : Panel) (i j : ℕ) → OnLine (first_lines p) i → OnLine (second_lines p) j → OnLine p.size.rows (pick p.order i j) × OnLine p.size.columns (pick p.order j i)
 meets p i j on_i on_j = go p.order on_i on_j
   where
-    go : (o : Order) → OnLine (pick o p.rows p.columns) i → OnLine (pick o p.columns p.rows) j → OnLine p.rows (pick o i j) × OnLine p.columns (pick o j i)
+    go : (o : Order) → OnLine (pick o p.size.rows p.size.columns) i → OnLine (pick o p.size.columns p.size.rows) j → OnLine p.size.rows (pick o i j) × OnLine p.size.columns (pick o j i)
     go RowsFirst a b = (a, b)
     go ColumnsFirst a b = (b, a)
 

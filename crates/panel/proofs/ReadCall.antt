@@ -81,14 +81,14 @@ module _ (p : Panel) (g : Grid) (x y : ℤ) where
   pub read_out : (parts : ℕ) (e : PanelFault) → Err e ≡ asked → read_answer parts p g x y ≡ Err e
   read_out parts e refused = is_stated parts ∙ stop asked (stated parts p g (nat_abs x) (nat_abs y)) e (sym refused)
 
-  pub read_long : Ok tt ≡ asked → length g ≡ p.rows * p.columns
-  read_long ok = eqb-true (length g) (p.rows * p.columns) (held _ _ (both_good (check (sized p g) GridLength) _ (sym ok)).0)
+  pub read_long : Ok tt ≡ asked → length g ≡ p.size.rows * p.size.columns
+  read_long ok = eqb-true (length g) (p.size.rows * p.size.columns) (held _ _ (both_good (check (sized p g) GridLength) _ (sym ok)).0)
 
   pub read_area : Ok tt ≡ asked → InArea p (nat_abs x) (nat_abs y)
   read_area ok =
       let a = both_good (check (sized p g) GridLength) _ (sym ok) in
       let b = both_good (check (in_area p x y) OutsideArea) (check (needed_current p (nat_abs x) (nat_abs y)) SecondStale) a.1 in
-      let on = and_parts (between x 32 (32 * p.rows - 1)) (between y 32 (32 * p.columns - 1)) (held _ _ b.0) in
-      let on_x = between_is x 32 (32 * p.rows - 1) on.0 in
-      let on_y = between_is y 32 (32 * p.columns - 1) on.1 in
+      let on = and_parts (between x 32 (32 * p.size.rows - 1)) (between y 32 (32 * p.size.columns - 1)) (held _ _ b.0) in
+      let on_x = between_is x 32 (32 * p.size.rows - 1) on.0 in
+      let on_y = between_is y 32 (32 * p.size.columns - 1) on.1 in
       omega arith

@@ -55,7 +55,7 @@ pub fine_admitted : (p : Panel) (samples halves : Grid) → FirstReady p samples
 fine_admitted p samples halves ready i part =
     let few = few_lines p ready.rows_within ready.columns_within in
     line_taken (λ j. pos 16 *ℤ meeting p samples part i j) (second_lines p) 1600000 few.1.0 few.1.1 (omega arith)
-    (λ j on. sixteen_low (meeting p samples part i j) (low_at p.columns samples part _ _ ready.samples_low))
+    (λ j on. sixteen_low (meeting p samples part i j) (low_at p.size.columns samples part _ _ ready.samples_low))
 
 -- checks that are passed, and checks that follow one
 pub then_passed : {A : Type 0} (b : Bool) (e : PanelFault) (next : Result A PanelFault) → b ≡ true → result_and (check b e) next ≡ next

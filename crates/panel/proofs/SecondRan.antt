@@ -39,7 +39,7 @@ module _ (parts : ℕ) (m : Grid) (st : State) (h : History) (inv : Invariant pa
         columns_within = inv.columns_within;
         samples_long = inv.samples_long;
         halves_long = inv.halves_long;
-        controls_long = length-map-range_with_len _ 0 (p.rows * p.columns);
+        controls_long = length-map-range_with_len _ 0 (p.size.rows * p.size.columns);
         samples_whole = inv.samples_whole;
         samples_low = inv.samples_low;
         samples_held = inv.samples_held;

@@ -56,60 +56,60 @@ some_columns : (rows columns k : ℕ) → k < rows * columns → 0 < columns
 some_columns rows zero k h = omega arith
 some_columns rows (suc columns) k h = omega arith
 
-pub gridded_is : (p : Panel) (g : Grid) (f : ℕ → ℕ → List ℤ) → length g ≡ p.rows * p.columns →
-    ((r s : ℕ) → OnLine p.rows r → OnLine p.columns s → sample_at p.columns g r s ≡ f r s) → g ≡ gridded p f
-gridded_is p g f long same = fill_by_all (λ k. f (k / p.columns + 1) (k % p.columns + 1)) g (p.rows * p.columns) [] long (λ k h.
-    let c = p.columns in
-    let some = some_columns p.rows c k h in
+pub gridded_is : (p : Panel) (g : Grid) (f : ℕ → ℕ → List ℤ) → length g ≡ p.size.rows * p.size.columns →
+    ((r s : ℕ) → OnLine p.size.rows r → OnLine p.size.columns s → sample_at p.size.columns g r s ≡ f r s) → g ≡ gridded p f
+gridded_is p g f long same = fill_by_all (λ k. f (k / p.size.columns + 1) (k % p.size.columns + 1)) g (p.size.rows * p.size.columns) [] long (λ k h.
+    let c = p.size.columns in
+    let some = some_columns p.size.rows c k h in
     let a : k / c + 1 - 1 ≡ k / c = omega arith in
     let b : k % c + 1 - 1 ≡ k % c = omega arith in
     let back : index c (k / c + 1) (k % c + 1) ≡ k = rw (a, b) (div-add-mod' k c) in
-    ap (λ i. get_or g i []) (sym back) ∙ same (k / c + 1) (k % c + 1) (omega (arith, div_below k c p.rows some h)) (omega (arith, mod_below k c some)))
+    ap (λ i. get_or g i []) (sym back) ∙ same (k / c + 1) (k % c + 1) (omega (arith, div_below k c p.size.rows some h)) (omega (arith, mod_below k c some)))
 
 -- Rows and columns as lanes.
 module _ (p : Panel) (i : ℕ) where
-  row_index : (e : ℕ) → on_lane (row_lane p i) e ≡ index p.columns i (e + 1)
+  row_index : (e : ℕ) → on_lane (row_lane p i) e ≡ index p.size.columns i (e + 1)
   row_index e = omega arith
 
-  column_index : (e : ℕ) → on_lane (column_lane p i) e ≡ index p.columns (e + 1) i
+  column_index : (e : ℕ) → on_lane (column_lane p i) e ≡ index p.size.columns (e + 1) i
   column_index e = let m : e + 1 - 1 ≡ e = omega arith in rw m (omega arith)
 
-  pub row_inside : OnLine p.rows i → Inside (row_lane p i) (p.rows * p.columns)
-  row_inside on e h = rw (row_index e) (index_within p.rows p.columns i (e + 1) on (omega arith))
+  pub row_inside : OnLine p.size.rows i → Inside (row_lane p i) (p.size.rows * p.size.columns)
+  row_inside on e h = rw (row_index e) (index_within p.size.rows p.size.columns i (e + 1) on (omega arith))
 
-  pub column_inside : OnLine p.columns i → Inside (column_lane p i) (p.rows * p.columns)
-  column_inside on e h = rw (column_index e) (index_within p.rows p.columns (e + 1) i (omega arith) on)
+  pub column_inside : OnLine p.size.columns i → Inside (column_lane p i) (p.size.rows * p.size.columns)
+  column_inside on e h = rw (column_index e) (index_within p.size.rows p.size.columns (e + 1) i (omega arith) on)
 
-module _ (p : Panel) (parts : ℕ) (fitted : List ℤ) (g : Grid) (long : length g ≡ p.rows * p.columns) (i r s : ℕ) (on_r : OnLine p.rows r) (on_s : OnLine p.columns s) where
-  pub row_at : OnLine p.rows i → sample_at p.columns (stored parts (row_lane p i) fitted p.columns g) r s ≡ cond (eqb i r) (column parts fitted (s - 1)) (sample_at p.columns g r s)
+module _ (p : Panel) (parts : ℕ) (fitted : List ℤ) (g : Grid) (long : length g ≡ p.size.rows * p.size.columns) (i r s : ℕ) (on_r : OnLine p.size.rows r) (on_s : OnLine p.size.columns s) where
+  pub row_at : OnLine p.size.rows i → sample_at p.size.columns (stored parts (row_lane p i) fitted p.size.columns g) r s ≡ cond (eqb i r) (column parts fitted (s - 1)) (sample_at p.size.columns g r s)
   row_at on = go (cases_eq i r)
     where
-      go : (i ≡ r) ⊎ (i ≡ r → ⊥) → sample_at p.columns (stored parts (row_lane p i) fitted p.columns g) r s ≡ cond (eqb i r) (column parts fitted (s - 1)) (sample_at p.columns g r s)
+      go : (i ≡ r) ⊎ (i ≡ r → ⊥) → sample_at p.size.columns (stored parts (row_lane p i) fitted p.size.columns g) r s ≡ cond (eqb i r) (column parts fitted (s - 1)) (sample_at p.size.columns g r s)
       go (inl same) =
           let m : s ≡ s - 1 + 1 = omega arith in
-          let e : index p.columns r s ≡ on_lane (row_lane p i) (s - 1) = ap₂ (index p.columns) (sym same) m ∙ sym (row_index p i (s - 1)) in
-          ap (λ k. get_or (stored parts (row_lane p i) fitted p.columns g) k []) e
-          ∙ stored_on parts (row_lane p i) fitted g (omega arith) p.columns (s - 1) (omega arith) (λ e h. omega (arith, row_inside p i on e h))
+          let e : index p.size.columns r s ≡ on_lane (row_lane p i) (s - 1) = ap₂ (index p.size.columns) (sym same) m ∙ sym (row_index p i (s - 1)) in
+          ap (λ k. get_or (stored parts (row_lane p i) fitted p.size.columns g) k []) e
+          ∙ stored_on parts (row_lane p i) fitted g (omega arith) p.size.columns (s - 1) (omega arith) (λ e h. omega (arith, row_inside p i on e h))
           ∙ sym (cond-true (eqb i r) (column parts fitted (s - 1)) _ (eq-eqb i r same))
       go (inr other) =
-          stored_off parts (row_lane p i) fitted g p.columns (index p.columns r s) (λ e h q. other
-          (sym (row_back p.columns i (e + 1) on.0 (omega arith)) ∙ ap (λ k. k / p.columns + 1) (sym (q ∙ row_index p i e)) ∙ row_back p.columns r s on_r.0 on_s))
-          ∙ sym (cond-false (eqb i r) _ (sample_at p.columns g r s) (ne_eqb i r other))
+          stored_off parts (row_lane p i) fitted g p.size.columns (index p.size.columns r s) (λ e h q. other
+          (sym (row_back p.size.columns i (e + 1) on.0 (omega arith)) ∙ ap (λ k. k / p.size.columns + 1) (sym (q ∙ row_index p i e)) ∙ row_back p.size.columns r s on_r.0 on_s))
+          ∙ sym (cond-false (eqb i r) _ (sample_at p.size.columns g r s) (ne_eqb i r other))
 
-  pub column_at : OnLine p.columns i → sample_at p.columns (stored parts (column_lane p i) fitted p.rows g) r s ≡ cond (eqb i s) (column parts fitted (r - 1)) (sample_at p.columns g r s)
+  pub column_at : OnLine p.size.columns i → sample_at p.size.columns (stored parts (column_lane p i) fitted p.size.rows g) r s ≡ cond (eqb i s) (column parts fitted (r - 1)) (sample_at p.size.columns g r s)
   column_at on = go (cases_eq i s)
     where
-      go : (i ≡ s) ⊎ (i ≡ s → ⊥) → sample_at p.columns (stored parts (column_lane p i) fitted p.rows g) r s ≡ cond (eqb i s) (column parts fitted (r - 1)) (sample_at p.columns g r s)
+      go : (i ≡ s) ⊎ (i ≡ s → ⊥) → sample_at p.size.columns (stored parts (column_lane p i) fitted p.size.rows g) r s ≡ cond (eqb i s) (column parts fitted (r - 1)) (sample_at p.size.columns g r s)
       go (inl same) =
           let m : r ≡ r - 1 + 1 = omega arith in
-          let e : index p.columns r s ≡ on_lane (column_lane p i) (r - 1) = ap₂ (index p.columns) m (sym same) ∙ sym (column_index p i (r - 1)) in
-          ap (λ k. get_or (stored parts (column_lane p i) fitted p.rows g) k []) e
-          ∙ stored_on parts (column_lane p i) fitted g (omega arith) p.rows (r - 1) (omega arith) (λ e h. omega (arith, column_inside p i on e h))
+          let e : index p.size.columns r s ≡ on_lane (column_lane p i) (r - 1) = ap₂ (index p.size.columns) m (sym same) ∙ sym (column_index p i (r - 1)) in
+          ap (λ k. get_or (stored parts (column_lane p i) fitted p.size.rows g) k []) e
+          ∙ stored_on parts (column_lane p i) fitted g (omega arith) p.size.rows (r - 1) (omega arith) (λ e h. omega (arith, column_inside p i on e h))
           ∙ sym (cond-true (eqb i s) (column parts fitted (r - 1)) _ (eq-eqb i s same))
       go (inr other) =
-          stored_off parts (column_lane p i) fitted g p.rows (index p.columns r s) (λ e h q. other
-          (sym (column_back p.columns (e + 1) i (omega arith) on) ∙ ap (λ k. k % p.columns + 1) (sym (q ∙ column_index p i e)) ∙ column_back p.columns r s on_r.0 on_s))
-          ∙ sym (cond-false (eqb i s) _ (sample_at p.columns g r s) (ne_eqb i s other))
+          stored_off parts (column_lane p i) fitted g p.size.rows (index p.size.columns r s) (λ e h q. other
+          (sym (column_back p.size.columns (e + 1) i (omega arith) on) ∙ ap (λ k. k % p.size.columns + 1) (sym (q ∙ column_index p i e)) ∙ column_back p.size.columns r s on_r.0 on_s))
+          ∙ sym (cond-false (eqb i s) _ (sample_at p.size.columns g r s) (ne_eqb i s other))
 
 -- The samples along a lane that was solved by a rule.
 module _ (parts n : ℕ) (rule : List ℤ → List ℤ) (lines L : ℕ → List ℤ) (fitted : List ℤ) (same : (part : ℕ) → lines part ≡ L part) (filled : Filled parts n rule lines fitted) where
@@ -117,34 +117,34 @@ module _ (parts n : ℕ) (rule : List ℤ → List ℤ) (lines L : ℕ → List 
   fitted_sample s on = shifted (λ q. get_or fitted (q * 64 + (s - 1)) (pos 0)) (λ part. place (rule (L part)) s) parts
       (λ q h. filled q (s - 1) h (omega arith) ∙ ap (λ v. get_or (rule v) (s - 1) (pos 0)) (same (q + 1)))
 
-module _ (p : Panel) (parts : ℕ) (rule : List ℤ → List ℤ) (lines L : ℕ → List ℤ) (fitted : List ℤ) (g : Grid) (long : length g ≡ p.rows * p.columns) (i : ℕ) (same : (part : ℕ) → lines part ≡ L part) where
-  row_gridded : OnLine p.rows i → Filled parts p.columns rule lines fitted →
-      stored parts (row_lane p i) fitted p.columns g ≡ gridded p (λ r s. cond (eqb i r) (map (λ part. place (rule (L part)) s) (range_with_len 1 parts)) (sample_at p.columns g r s))
-  row_gridded on filled = gridded_is p _ _ (length_stored parts (row_lane p i) fitted g p.columns ∙ long) (λ r s on_r on_s.
-      row_at p parts fitted g long i r s on_r on_s on ∙ ap (λ v. cond (eqb i r) v (sample_at p.columns g r s)) (fitted_sample parts p.columns rule lines L fitted same filled s on_s))
+module _ (p : Panel) (parts : ℕ) (rule : List ℤ → List ℤ) (lines L : ℕ → List ℤ) (fitted : List ℤ) (g : Grid) (long : length g ≡ p.size.rows * p.size.columns) (i : ℕ) (same : (part : ℕ) → lines part ≡ L part) where
+  row_gridded : OnLine p.size.rows i → Filled parts p.size.columns rule lines fitted →
+      stored parts (row_lane p i) fitted p.size.columns g ≡ gridded p (λ r s. cond (eqb i r) (map (λ part. place (rule (L part)) s) (range_with_len 1 parts)) (sample_at p.size.columns g r s))
+  row_gridded on filled = gridded_is p _ _ (length_stored parts (row_lane p i) fitted g p.size.columns ∙ long) (λ r s on_r on_s.
+      row_at p parts fitted g long i r s on_r on_s on ∙ ap (λ v. cond (eqb i r) v (sample_at p.size.columns g r s)) (fitted_sample parts p.size.columns rule lines L fitted same filled s on_s))
 
-  column_gridded : OnLine p.columns i → Filled parts p.rows rule lines fitted →
-      stored parts (column_lane p i) fitted p.rows g ≡ gridded p (λ r s. cond (eqb i s) (map (λ part. place (rule (L part)) r) (range_with_len 1 parts)) (sample_at p.columns g r s))
-  column_gridded on filled = gridded_is p _ _ (length_stored parts (column_lane p i) fitted g p.rows ∙ long) (λ r s on_r on_s.
-      column_at p parts fitted g long i r s on_r on_s on ∙ ap (λ v. cond (eqb i s) v (sample_at p.columns g r s)) (fitted_sample parts p.rows rule lines L fitted same filled r on_r))
+  column_gridded : OnLine p.size.columns i → Filled parts p.size.rows rule lines fitted →
+      stored parts (column_lane p i) fitted p.size.rows g ≡ gridded p (λ r s. cond (eqb i s) (map (λ part. place (rule (L part)) r) (range_with_len 1 parts)) (sample_at p.size.columns g r s))
+  column_gridded on filled = gridded_is p _ _ (length_stored parts (column_lane p i) fitted g p.size.rows ∙ long) (λ r s on_r on_s.
+      column_at p parts fitted g long i r s on_r on_s on ∙ ap (λ v. cond (eqb i s) v (sample_at p.size.columns g r s)) (fitted_sample parts p.size.rows rule lines L fitted same filled r on_r))
 
-  pub first_gridded : (o : Order) → OnLine (pick o p.rows p.columns) i → Filled parts (pick o (row_lane p i) (column_lane p i)).count rule lines fitted →
+  pub first_gridded : (o : Order) → OnLine (pick o p.size.rows p.size.columns) i → Filled parts (pick o (row_lane p i) (column_lane p i)).count rule lines fitted →
       stored parts (pick o (row_lane p i) (column_lane p i)) fitted (pick o (row_lane p i) (column_lane p i)).count g
-      ≡ gridded p (λ r s. cond (eqb i (pick o r s)) (map (λ part. place (rule (L part)) (pick o s r)) (range_with_len 1 parts)) (sample_at p.columns g r s))
+      ≡ gridded p (λ r s. cond (eqb i (pick o r s)) (map (λ part. place (rule (L part)) (pick o s r)) (range_with_len 1 parts)) (sample_at p.size.columns g r s))
   first_gridded RowsFirst on filled = row_gridded on filled
   first_gridded ColumnsFirst on filled = column_gridded on filled
 
-  pub second_gridded : (o : Order) → OnLine (pick o p.columns p.rows) i → Filled parts (pick o (column_lane p i) (row_lane p i)).count rule lines fitted →
+  pub second_gridded : (o : Order) → OnLine (pick o p.size.columns p.size.rows) i → Filled parts (pick o (column_lane p i) (row_lane p i)).count rule lines fitted →
       stored parts (pick o (column_lane p i) (row_lane p i)) fitted (pick o (column_lane p i) (row_lane p i)).count g
-      ≡ gridded p (λ r s. cond (eqb i (pick o s r)) (map (λ part. place (rule (L part)) (pick o r s)) (range_with_len 1 parts)) (sample_at p.columns g r s))
+      ≡ gridded p (λ r s. cond (eqb i (pick o s r)) (map (λ part. place (rule (L part)) (pick o r s)) (range_with_len 1 parts)) (sample_at p.size.columns g r s))
   second_gridded RowsFirst on filled = column_gridded on filled
   second_gridded ColumnsFirst on filled = row_gridded on filled
 
 -- The lines of a lane, and where it lies.
 module _ (p : Panel) (g : Grid) (i part : ℕ) where
-  pub first_laned : (o : Order) → laned 16 g (pick o (row_lane p i) (column_lane p i)) part ≡ map (λ j. pos 16 *ℤ at p.columns g part (pick o i j) (pick o j i)) (range_with_len 1 (pick o p.columns p.rows))
-  first_laned RowsFirst = shifted _ _ p.columns (λ e h. ap (λ k. pos 16 *ℤ part_of (get_or g k []) part) (row_index p i e))
-  first_laned ColumnsFirst = shifted _ _ p.rows (λ e h. ap (λ k. pos 16 *ℤ part_of (get_or g k []) part) (column_index p i e))
+  pub first_laned : (o : Order) → laned 16 g (pick o (row_lane p i) (column_lane p i)) part ≡ map (λ j. pos 16 *ℤ at p.size.columns g part (pick o i j) (pick o j i)) (range_with_len 1 (pick o p.size.columns p.size.rows))
+  first_laned RowsFirst = shifted _ _ p.size.columns (λ e h. ap (λ k. pos 16 *ℤ part_of (get_or g k []) part) (row_index p i e))
+  first_laned ColumnsFirst = shifted _ _ p.size.rows (λ e h. ap (λ k. pos 16 *ℤ part_of (get_or g k []) part) (column_index p i e))
 
   once : (k m : ℕ) → k ≡ m → pos 1 *ℤ part_of (get_or g k []) part ≡ part_of (get_or g m []) part
   once k m e = one (part_of (get_or g k []) part) ∙ ap (λ k. part_of (get_or g k []) part) e
@@ -152,15 +152,15 @@ module _ (p : Panel) (g : Grid) (i part : ℕ) where
       one : (v : ℤ) → pos 1 *ℤ v ≡ v
       one v = omega (arith, ints)
 
-  pub second_laned : (o : Order) → laned 1 g (pick o (column_lane p i) (row_lane p i)) part ≡ map (λ j. at p.columns g part (pick o j i) (pick o i j)) (range_with_len 1 (pick o p.rows p.columns))
-  second_laned RowsFirst = shifted _ _ p.rows (λ e h. once _ _ (column_index p i e))
-  second_laned ColumnsFirst = shifted _ _ p.columns (λ e h. once _ _ (row_index p i e))
+  pub second_laned : (o : Order) → laned 1 g (pick o (column_lane p i) (row_lane p i)) part ≡ map (λ j. at p.size.columns g part (pick o j i) (pick o i j)) (range_with_len 1 (pick o p.size.rows p.size.columns))
+  second_laned RowsFirst = shifted _ _ p.size.rows (λ e h. once _ _ (column_index p i e))
+  second_laned ColumnsFirst = shifted _ _ p.size.columns (λ e h. once _ _ (row_index p i e))
 
 module _ (p : Panel) (i : ℕ) where
-  pub first_inside : (o : Order) → OnLine (pick o p.rows p.columns) i → Inside (pick o (row_lane p i) (column_lane p i)) (p.rows * p.columns)
+  pub first_inside : (o : Order) → OnLine (pick o p.size.rows p.size.columns) i → Inside (pick o (row_lane p i) (column_lane p i)) (p.size.rows * p.size.columns)
   first_inside RowsFirst on = row_inside p i on
   first_inside ColumnsFirst on = column_inside p i on
 
-  pub second_inside : (o : Order) → OnLine (pick o p.columns p.rows) i → Inside (pick o (column_lane p i) (row_lane p i)) (p.rows * p.columns)
+  pub second_inside : (o : Order) → OnLine (pick o p.size.columns p.size.rows) i → Inside (pick o (column_lane p i) (row_lane p i)) (p.size.rows * p.size.columns)
   second_inside RowsFirst on = column_inside p i on
   second_inside ColumnsFirst on = row_inside p i on

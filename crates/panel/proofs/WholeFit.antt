@@ -14,7 +14,7 @@ use Rattle.surface.proofs.Below.{below_passes}
 use Rattle.panel.specs.declared.record.Panel.{Panel}
 use Rattle.panel.specs.declared.record.Mark.{Mark}
 use Rattle.panel_fault.specs.declared.PanelFault.TheVariants.{Size, NoLine, FirstStale, GridLength, PartBeyond}
-use Rattle.panel.specs.Calls.{Answer, part_limit, between, parts_within, grid_within, first_lines, second_lines, meeting, mark, all_current, fine_line, first_answer, first_panel, first_halves, second_answer, second_panel, second_controls}
+use Rattle.panel.specs.Calls.{Answer, part_limit, between, parts_within, grid_within, first_lines, second_lines, meeting, mark, all_current, fine_line, first_answer, first_panel, first_halves, second_answer, second_panel, second_controls, is_current}
 use Rattle.panel.specs.Fit.{all_ran, halves_fitted, controls_fitted, firsts_panel, seconds_panel, fit_answer, fit_panel, fit_halves, fit_controls, fitted_panel, fitted_halves, fitted_controls, firsts_ran, seconds_ran, fit_history, Fitted, FirstReady, SecondReady}
 use Rattle.panel.specs.Runs.{History, Reached, ran_since}
 use Rattle.panel.proofs.Bounds.{fitted_low}
@@ -29,19 +29,19 @@ use Rattle.panel.proofs.Accepted.{first_ready}
 
 -- The checks of make
 
-pub ready_to_fit : (p : Panel) (samples halves controls : Grid) → fit_answer p samples halves controls ≡ Ok tt → FirstReady p samples halves × (length controls ≡ p.rows * p.columns)
+pub ready_to_fit : (p : Panel) (samples halves controls : Grid) → fit_answer p samples halves controls ≡ Ok tt → FirstReady p samples halves × (length controls ≡ p.size.rows * p.size.columns)
 ready_to_fit p samples halves controls ok =
-    let a = both_good (check (between (pos p.rows) 2 64) Size) _ ok in
-    let b = both_good (check (between (pos p.columns) 2 64) Size) _ a.1 in
-    let c = both_good (check (eqb (length samples) (p.rows * p.columns)) GridLength) _ b.1 in
-    let d = both_good (check (eqb (length halves) (p.rows * p.columns)) GridLength) _ c.1 in
-    let e = both_good (check (eqb (length controls) (p.rows * p.columns)) GridLength) (grid_within p.columns 0 samples) d.1 in (
+    let a = both_good (check (between (pos p.size.rows) 2 64) Size) _ ok in
+    let b = both_good (check (between (pos p.size.columns) 2 64) Size) _ a.1 in
+    let c = both_good (check (eqb (length samples) (p.size.rows * p.size.columns)) GridLength) _ b.1 in
+    let d = both_good (check (eqb (length halves) (p.size.rows * p.size.columns)) GridLength) _ c.1 in
+    let e = both_good (check (eqb (length controls) (p.size.rows * p.size.columns)) GridLength) (grid_within p.size.columns 0 samples) d.1 in (
       record {
-        rows_within = between_is (pos p.rows) 2 64 (held _ _ a.0);
-        columns_within = between_is (pos p.columns) 2 64 (held _ _ b.0);
+        rows_within = between_is (pos p.size.rows) 2 64 (held _ _ a.0);
+        columns_within = between_is (pos p.size.columns) 2 64 (held _ _ b.0);
         samples_long = eqb-true _ _ (held _ _ c.0);
         halves_long = eqb-true _ _ (held _ _ d.0);
-        samples_low = low_grid p.columns 0 samples e.1;
+        samples_low = low_grid p.size.columns 0 samples e.1;
       },
       eqb-true _ _ (held _ _ e.0),
     )
@@ -58,14 +58,14 @@ grid_passes columns k (v ∷ g) low = over _ (grid_within columns (k + 1) g) tt 
 number_between : (v low high : ℕ) → low ≤ v → v ≤ high → between (pos v) low high ≡ true
 number_between v low high a b = grind (arith, nat_tests)
 
-pub fit_passes : (p : Panel) (samples halves controls : Grid) → FirstReady p samples halves → length controls ≡ p.rows * p.columns → fit_answer p samples halves controls ≡ Ok tt
+pub fit_passes : (p : Panel) (samples halves controls : Grid) → FirstReady p samples halves → length controls ≡ p.size.rows * p.size.columns → fit_answer p samples halves controls ≡ Ok tt
 fit_passes p samples halves controls ready long =
-    then_passed (between (pos p.rows) 2 64) Size _ (number_between p.rows 2 64 ready.rows_within.0 ready.rows_within.1)
-    ∙ then_passed (between (pos p.columns) 2 64) Size _ (number_between p.columns 2 64 ready.columns_within.0 ready.columns_within.1)
-    ∙ then_passed (eqb (length samples) (p.rows * p.columns)) GridLength _ (eq-eqb _ _ ready.samples_long)
-    ∙ then_passed (eqb (length halves) (p.rows * p.columns)) GridLength _ (eq-eqb _ _ ready.halves_long)
-    ∙ then_passed (eqb (length controls) (p.rows * p.columns)) GridLength _ (eq-eqb _ _ long)
-    ∙ grid_passes p.columns 0 samples ready.samples_low
+    then_passed (between (pos p.size.rows) 2 64) Size _ (number_between p.size.rows 2 64 ready.rows_within.0 ready.rows_within.1)
+    ∙ then_passed (between (pos p.size.columns) 2 64) Size _ (number_between p.size.columns 2 64 ready.columns_within.0 ready.columns_within.1)
+    ∙ then_passed (eqb (length samples) (p.size.rows * p.size.columns)) GridLength _ (eq-eqb _ _ ready.samples_long)
+    ∙ then_passed (eqb (length halves) (p.size.rows * p.size.columns)) GridLength _ (eq-eqb _ _ ready.halves_long)
+    ∙ then_passed (eqb (length controls) (p.size.rows * p.size.columns)) GridLength _ (eq-eqb _ _ long)
+    ∙ grid_passes p.size.columns 0 samples ready.samples_low
 
 -- The numbers of a turn: what a call was given, and what the loop holds.
 turn : {X : Type 0} (F : Panel → Grid → ℤ → X) {q q' : Panel} {g g' : Grid} (z : ℤ) (n : ℕ) → q ≡ q' → g ≡ g' → z ≡ pos (n + 1) → F q g z ≡ F q' g' (pos (suc n))
@@ -74,9 +74,9 @@ turn F {q} {q'} {g} {g'} z n e f is = ap₂ (λ q g. F q g z) e f ∙ ap (F q' g
 -- First lines
 
 module _ (parts : ℕ) (p : Panel) (by : Solver) (samples halves : Grid) (ready : FirstReady p samples halves) where
-  halves_long : (n : ℕ) → length (halves_fitted parts p by samples halves n) ≡ p.rows * p.columns
+  halves_long : (n : ℕ) → length (halves_fitted parts p by samples halves n) ≡ p.size.rows * p.size.columns
   halves_long zero = ready.halves_long
-  halves_long (suc n) = length-map-range_with_len _ 0 (p.rows * p.columns)
+  halves_long (suc n) = length-map-range_with_len _ 0 (p.size.rows * p.size.columns)
 
   ready_after : (n : ℕ) → FirstReady (firsts_panel p by n) samples (halves_fitted parts p by samples halves n)
   ready_after n = record { rows_within = ready.rows_within; columns_within = ready.columns_within; samples_long = ready.samples_long; halves_long = halves_long n; samples_low = ready.samples_low }
@@ -138,18 +138,18 @@ module _ (ks : List Mark) (g : ℕ) where
   ran_long zero = refl
   ran_long (suc n) = length-set (all_ran ks g n) _ _ ∙ ran_long n
 
-  pub ran_current : (n i : ℕ) → n ≤ length ks → OnLine n i → (mark (all_ran ks g n) i).current ≡ true
+  pub ran_current : (n i : ℕ) → n ≤ length ks → OnLine n i → is_current (mark (all_ran ks g n) i) ≡ true
   ran_current zero i few on = absurd (omega arith)
   ran_current (suc n) i few on =
       ran_at_current (all_ran ks g n) (suc n) i g (omega (arith, ran_long n)) on.0
-      ∙ last_or n i (mark (all_ran ks g n) i).current on (λ before. ran_current n i (omega arith) before)
+      ∙ last_or n i (is_current (mark (all_ran ks g n) i)) on (λ before. ran_current n i (omega arith) before)
 
   pub all_ran_current : (n : ℕ) → n ≤ length ks → all_current n (all_ran ks g n) ≡ true
-  all_ran_current n few = below_passes n (λ i. (mark (all_ran ks g n) (i + 1)).current) (λ i low. ran_current n (i + 1) few (omega arith))
+  all_ran_current n few = below_passes n (λ i. is_current (mark (all_ran ks g n) (i + 1))) (λ i low. ran_current n (i + 1) few (omega arith))
 
 -- Second lines
 
-pub ready_for_second : (parts : ℕ) (p : Panel) (by : Solver) → Sound by → (samples halves controls : Grid) → FirstReady p samples halves → length controls ≡ p.rows * p.columns →
+pub ready_for_second : (parts : ℕ) (p : Panel) (by : Solver) → Sound by → (samples halves controls : Grid) → FirstReady p samples halves → length controls ≡ p.size.rows * p.size.columns →
     SecondReady parts (firsts_panel p by (first_lines p)) (halves_fitted parts p by samples halves (first_lines p)) controls
 ready_for_second parts p by sound samples halves controls ready long = record {
   rows_within = ready.rows_within;
@@ -162,9 +162,9 @@ ready_for_second parts p by sound samples halves controls ready long = record {
 }
 
 module _ (parts : ℕ) (p : Panel) (by : Solver) (halves controls : Grid) (ready : SecondReady parts p halves controls) (current : all_current (first_lines p) p.first ≡ true) where
-  controls_long : (n : ℕ) → length (controls_fitted parts p by halves controls n) ≡ p.rows * p.columns
+  controls_long : (n : ℕ) → length (controls_fitted parts p by halves controls n) ≡ p.size.rows * p.size.columns
   controls_long zero = ready.controls_long
-  controls_long (suc n) = length-map-range_with_len _ 0 (p.rows * p.columns)
+  controls_long (suc n) = length-map-range_with_len _ 0 (p.size.rows * p.size.columns)
 
   pub second_runs : (n : ℕ) → n < second_lines p → second_answer parts (seconds_panel p by n) halves (controls_fitted parts p by halves controls n) (pos (suc n)) ≡ Ok tt
   second_runs n low =

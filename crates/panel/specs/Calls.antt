@@ -14,6 +14,7 @@ use Rattle.panel.specs.declared.record.Panel.{Panel}
 use Rattle.panel.specs.declared.record.Order.{Order}
 use Rattle.panel.specs.declared.record.Order.TheVariants.{RowsFirst, ColumnsFirst}
 use Rattle.panel.specs.declared.record.Mark.{Mark}
+use Rattle.panel.specs.declared.record.Mark.TheVariants.{Unrun, Stale, Current}
 use Rattle.panel_fault.specs.declared.PanelFault.{PanelFault}
 use Rattle.panel_fault.specs.declared.PanelFault.TheVariants.{Size, Place, NoLine, PartBeyond, TooManyProbes, FirstStale, GridLength, Solver as SolverRefused}
 
@@ -50,10 +51,10 @@ pick ColumnsFirst a b = b
 
 -- How many first lines and second lines there are.
 abbrev pub first_lines : Panel → ℕ
-first_lines p = pick p.order p.rows p.columns
+first_lines p = pick p.order p.size.rows p.size.columns
 
 abbrev pub second_lines : Panel → ℕ
-second_lines p = pick p.order p.columns p.rows
+second_lines p = pick p.order p.size.columns p.size.rows
 
 -- The first line and the second line through a place.
 abbrev pub first_of : Panel → ℕ → ℕ → ℕ
@@ -64,11 +65,11 @@ second_of p r s = pick p.order s r
 
 -- One part where first line i and second line j meet.
 abbrev pub meeting : Panel → Grid → ℕ → ℕ → ℕ → ℤ
-meeting p g part i j = at p.columns g part (pick p.order i j) (pick p.order j i)
+meeting p g part i j = at p.size.columns g part (pick p.order i j) (pick p.order j i)
 
 -- A grid made from a function of the place.
 abbrev pub gridded : Panel → (ℕ → ℕ → List ℤ) → Grid
-gridded p f = map (λ k. f (k / p.columns + 1) (k % p.columns + 1)) (range_with_len 0 (p.rows * p.columns))
+gridded p f = map (λ k. f (k / p.size.columns + 1) (k % p.size.columns + 1)) (range_with_len 0 (p.size.rows * p.size.columns))
 
 -- What the checks ask
 
@@ -78,7 +79,7 @@ between v low high = int_le (pos low) v && int_le v (pos high)
 
 -- A grid has as many samples as the panel has places.
 abbrev pub sized : Panel → Grid → Bool
-sized p g = length g == p.rows * p.columns
+sized p g = length g == p.size.rows * p.size.columns
 
 -- No part of a sample, counted from k, lies beyond the limit; else the first that does, with its place.
 abbrev pub parts_within : ℕ → ℕ → ℕ → List ℤ → Answer
@@ -103,21 +104,31 @@ solver_takes line k (suc left) lines =
 
 -- Marks
 
--- A line that never ran.
-abbrev pub unrun : Mark
-unrun = record { grade = 0; current = false }
+-- The grade of the solver that last ran the line, 0 if none did.
+abbrev pub grade_of : Mark → ℕ
+grade_of Unrun = 0
+grade_of (Stale grade) = grade
+grade_of (Current grade) = grade
+
+-- Whether the line is current.
+abbrev pub is_current : Mark → Bool
+is_current Unrun = false
+is_current (Stale grade) = false
+is_current (Current grade) = true
 
 -- The mark of line i.
 abbrev pub mark : List Mark → ℕ → Mark
-mark ks i = slice_index_or ks (i - 1) unrun
+mark ks i = slice_index_or ks (i - 1) Unrun
 
 -- Lines 1 to n are all current.
 abbrev pub all_current : ℕ → List Mark → Bool
-all_current n ks = all_below n (λ i. (mark ks (i + 1)).current)
+all_current n ks = all_below n (λ i. is_current (mark ks (i + 1)))
 
 -- A mark without its claim to be current; the grade stays.
 abbrev pub let_go : Mark → Mark
-let_go k = record { grade = k.grade; current = false }
+let_go Unrun = Unrun
+let_go (Stale grade) = Stale grade
+let_go (Current grade) = Stale grade
 
 -- Every line stale, and one line stale.
 abbrev pub stale : List Mark → List Mark
@@ -128,7 +139,7 @@ stale_at ks i = slice_set ks (i - 1) (let_go (mark ks i))
 
 -- Line i ran by a solver of grade g.
 abbrev pub ran_at : List Mark → ℕ → ℕ → List Mark
-ran_at ks i g = slice_set ks (i - 1) (record { grade = g; current = true })
+ran_at ks i g = slice_set ks (i - 1) (Current g)
 
 -- Make
 
@@ -143,7 +154,8 @@ make_answer m n samples halves controls =
 
 -- A panel that was just made: no line has run.
 abbrev pub new_panel : ℤ → ℤ → Order → Panel
-new_panel m n o = record { rows = unsigned_abs m; columns = unsigned_abs n; order = o; probes = 0; first = replicate 64 unrun; second = replicate 64 unrun }
+new_panel m n o =
+    record { size = record { rows = unsigned_abs m; columns = unsigned_abs n }; order = o; probes = 0; first = replicate 64 Unrun; second = replicate 64 Unrun }
 
 abbrev pub make_result : ℤ → ℤ → Order → Grid → Grid → Grid → Result Panel PanelFault
 make_result m n o samples halves controls = result_and (make_answer m n samples halves controls) (Ok (new_panel m n o))
@@ -153,24 +165,24 @@ make_result m n o samples halves controls = result_and (make_answer m n samples 
 abbrev pub probe_answer : Panel → Grid → ℤ → ℤ → List ℤ → Answer
 probe_answer p samples row column new =
     result_and (check (sized p samples) GridLength)
-    (result_and (check (between row 1 p.rows && between column 1 p.columns) Place)
+    (result_and (check (between row 1 p.size.rows && between column 1 p.size.columns) Place)
     (result_and (parts_within (unsigned_abs row) (unsigned_abs column) 1 new)
     (check (nat_lt p.probes probe_limit) TooManyProbes)))
 
 -- The panel after an accepted probe: one more is counted, the first line through the place is stale, and every second line.
 abbrev pub probed_panel : Panel → ℕ → ℕ → Panel
-probed_panel p r s = record { rows = p.rows; columns = p.columns; order = p.order; probes = p.probes + 1; first = stale_at p.first (first_of p r s); second = stale p.second }
+probed_panel p r s = record p { probes = p.probes + 1; first = stale_at p.first (first_of p r s); second = stale p.second }
 
 -- The panel and the samples after any probe.
 abbrev pub probe_panel : Panel → Grid → ℤ → ℤ → List ℤ → Panel
 probe_panel p samples row column new = if_ok (probe_answer p samples row column new) (probed_panel p (unsigned_abs row) (unsigned_abs column)) p
 
 abbrev pub probe_samples : Panel → Grid → ℤ → ℤ → List ℤ → Grid
-probe_samples p samples row column new = if_ok (probe_answer p samples row column new) (slice_set samples (index p.columns (unsigned_abs row) (unsigned_abs column)) new) samples
+probe_samples p samples row column new = if_ok (probe_answer p samples row column new) (slice_set samples (index p.size.columns (unsigned_abs row) (unsigned_abs column)) new) samples
 
 abbrev pub probe_after : State → ℤ → ℤ → List ℤ → State
 probe_after st row column new =
-    record { panel = probe_panel st.panel st.samples row column new; samples = probe_samples st.panel st.samples row column new; halves = st.halves; controls = st.controls }
+    record st { panel = probe_panel st.panel st.samples row column new; samples = probe_samples st.panel st.samples row column new }
 
 -- First line
 
@@ -189,14 +201,14 @@ abbrev pub first_sample : ℕ → Panel → Solver → Grid → Grid → ℕ →
 first_sample parts p by samples halves i r s =
     cond (i == first_of p r s)
     (map (λ part. place (by.rule (fine_line p samples i part)) (second_of p r s)) (range_with_len 1 parts))
-    (sample_at p.columns halves r s)
+    (sample_at p.size.columns halves r s)
 
 abbrev pub first_fitted : ℕ → Panel → Solver → Grid → Grid → ℕ → Grid
 first_fitted parts p by samples halves i = gridded p (first_sample parts p by samples halves i)
 
 -- The panel after an accepted call: the line ran, and every second line is stale.
 abbrev pub first_ran_panel : Panel → ℕ → ℕ → Panel
-first_ran_panel p i g = record { rows = p.rows; columns = p.columns; order = p.order; probes = p.probes; first = ran_at p.first i g; second = stale p.second }
+first_ran_panel p i g = record p { first = ran_at p.first i g; second = stale p.second }
 
 -- The panel and the half points after any call.
 abbrev pub first_panel : ℕ → Panel → Solver → Grid → Grid → ℤ → Panel
@@ -207,7 +219,7 @@ first_halves parts p by samples halves i = if_ok (first_answer parts p samples h
 
 abbrev pub first_after : ℕ → Solver → State → ℤ → State
 first_after parts by st i =
-    record { panel = first_panel parts st.panel by st.samples st.halves i; samples = st.samples; halves = first_halves parts st.panel by st.samples st.halves i; controls = st.controls }
+    record st { panel = first_panel parts st.panel by st.samples st.halves i; halves = first_halves parts st.panel by st.samples st.halves i }
 
 -- Second line
 
@@ -227,14 +239,14 @@ abbrev pub second_sample : ℕ → Panel → Solver → Grid → Grid → ℕ �
 second_sample parts p by halves controls j r s =
     cond (j == second_of p r s)
     (map (λ part. place (by.rule (along_second p halves part j)) (first_of p r s)) (range_with_len 1 parts))
-    (sample_at p.columns controls r s)
+    (sample_at p.size.columns controls r s)
 
 abbrev pub second_fitted : ℕ → Panel → Solver → Grid → Grid → ℕ → Grid
 second_fitted parts p by halves controls j = gridded p (second_sample parts p by halves controls j)
 
 -- The panel after an accepted call: the line ran.
 abbrev pub second_ran_panel : Panel → ℕ → ℕ → Panel
-second_ran_panel p j g = record { rows = p.rows; columns = p.columns; order = p.order; probes = p.probes; first = p.first; second = ran_at p.second j g }
+second_ran_panel p j g = record p { second = ran_at p.second j g }
 
 -- The panel and the control points after any call.
 abbrev pub second_panel : ℕ → Panel → Solver → Grid → Grid → ℤ → Panel
@@ -245,4 +257,4 @@ second_controls parts p by halves controls j = if_ok (second_answer parts p halv
 
 abbrev pub second_after : ℕ → Solver → State → ℤ → State
 second_after parts by st j =
-    record { panel = second_panel parts st.panel by st.halves st.controls j; samples = st.samples; halves = st.halves; controls = second_controls parts st.panel by st.halves st.controls j }
+    record st { panel = second_panel parts st.panel by st.halves st.controls j; controls = second_controls parts st.panel by st.halves st.controls j }

@@ -13,7 +13,7 @@ use Rattle.panel.specs.Runs.Event.{first_ran, second_ran}
 
 -- The checks of make, on the sizes of the panel: past them no line can be refused.
 abbrev pub fit_answer : Panel → Grid → Grid → Grid → Answer
-fit_answer p samples halves controls = make_answer (pos p.rows) (pos p.columns) samples halves controls
+fit_answer p samples halves controls = make_answer (pos p.size.rows) (pos p.size.columns) samples halves controls
 
 -- The marks after lines 1 to n ran by a solver of grade g.
 abbrev pub all_ran : List Mark → ℕ → ℕ → List Mark
@@ -36,10 +36,10 @@ staled ks (suc n) = stale (staled ks n)
 
 -- The panel after first lines 1 to n, and after second lines 1 to n.
 abbrev pub firsts_panel : Panel → Solver → ℕ → Panel
-firsts_panel p by n = record { rows = p.rows; columns = p.columns; order = p.order; probes = p.probes; first = all_ran p.first by.grade n; second = staled p.second n }
+firsts_panel p by n = record p { first = all_ran p.first by.grade n; second = staled p.second n }
 
 abbrev pub seconds_panel : Panel → Solver → ℕ → Panel
-seconds_panel p by n = record { rows = p.rows; columns = p.columns; order = p.order; probes = p.probes; first = p.first; second = all_ran p.second by.grade n }
+seconds_panel p by n = record p { second = all_ran p.second by.grade n }
 
 -- The panel after an accepted fit.
 abbrev pub fitted_panel : Panel → Solver → Solver → Panel
@@ -84,15 +84,15 @@ pub record Fitted (parts : ℕ) (made : Grid) (after : State) (h : History) (r :
 
 -- For inner functions: what lets every first line run, and what lets every second line run once all first lines are current.
 pub record FirstReady (p : Panel) (samples halves : Grid) : Type 0 where
-  pub rows_within : (2 ≤ p.rows) × (p.rows ≤ 64)
-  pub columns_within : (2 ≤ p.columns) × (p.columns ≤ 64)
-  pub samples_long : length samples ≡ p.rows * p.columns
-  pub halves_long : length halves ≡ p.rows * p.columns
+  pub rows_within : (2 ≤ p.size.rows) × (p.size.rows ≤ 64)
+  pub columns_within : (2 ≤ p.size.columns) × (p.size.columns ≤ 64)
+  pub samples_long : length samples ≡ p.size.rows * p.size.columns
+  pub halves_long : length halves ≡ p.size.rows * p.size.columns
   pub samples_low : AllByRecursion (AllByRecursion (λ x. unsigned_abs x ≤ part_limit)) samples
 
 pub record SecondReady (parts : ℕ) (p : Panel) (halves controls : Grid) : Type 0 where
-  pub rows_within : (2 ≤ p.rows) × (p.rows ≤ 64)
-  pub columns_within : (2 ≤ p.columns) × (p.columns ≤ 64)
-  pub halves_long : length halves ≡ p.rows * p.columns
-  pub controls_long : length controls ≡ p.rows * p.columns
+  pub rows_within : (2 ≤ p.size.rows) × (p.size.rows ≤ 64)
+  pub columns_within : (2 ≤ p.size.columns) × (p.size.columns ≤ 64)
+  pub halves_long : length halves ≡ p.size.rows * p.size.columns
+  pub controls_long : length controls ≡ p.size.rows * p.size.columns
   pub halves_low : all_current (first_lines p) p.first ≡ true → (part : ℕ) → OnLine parts part → (i j : ℕ) → OnLine (first_lines p) i → OnLine (second_lines p) j → unsigned_abs (meeting p halves part i j) ≤ 4800006

@@ -9,10 +9,10 @@ use Rattle.panel.specs.Calls.{pick}
 
 -- A row and a column of a panel's grids.
 abbrev pub row_lane : Panel → ℕ → Lane
-row_lane p r = record { start = (r - 1) * p.columns; step = 1; count = p.columns }
+row_lane p r = record { start = (r - 1) * p.size.columns; step = 1; count = p.size.columns }
 
 abbrev pub column_lane : Panel → ℕ → Lane
-column_lane p s = record { start = s - 1; step = p.columns; count = p.rows }
+column_lane p s = record { start = s - 1; step = p.size.columns; count = p.size.rows }
 
 -- First line i and second line j.
 abbrev pub first_lane : Panel → ℕ → Lane

@@ -9,14 +9,14 @@ use Rattle.surface.specs.Patch.{all_below, within_reach}
 use Rattle.panel.specs.declared.record.Panel.{Panel}
 use Rattle.panel_fault.specs.declared.PanelFault.{PanelFault}
 use Rattle.panel_fault.specs.declared.PanelFault.TheVariants.{OutsideArea, SecondStale, GridLength, ControlBeyond}
-use Rattle.panel.specs.Calls.{between, sized, pick, first_lines, second_lines, mark}
+use Rattle.panel.specs.Calls.{between, sized, pick, first_lines, second_lines, mark, grade_of, is_current}
 
 -- The area in which a panel is read, as a fact and as a test.
 abbrev pub InArea : Panel → ℕ → ℕ → Type 0
-InArea p x y = (32 ≤ x) × (x < 32 * p.rows) × (32 ≤ y) × (y < 32 * p.columns)
+InArea p x y = (32 ≤ x) × (x < 32 * p.size.rows) × (32 ≤ y) × (y < 32 * p.size.columns)
 
 abbrev pub in_area : Panel → ℤ → ℤ → Bool
-in_area p x y = between x 32 (32 * p.rows - 1) && between y 32 (32 * p.columns - 1)
+in_area p x y = between x 32 (32 * p.size.rows - 1) && between y 32 (32 * p.size.columns - 1)
 
 -- The second lines through the sixteen control points around a place, one for each a below 4.
 abbrev pub needed : Panel → ℕ → ℕ → ℕ → ℕ
@@ -24,11 +24,11 @@ needed p x y a = line_around (second_lines p) (pick p.order y x) a
 
 -- Every one of them is current.
 unfoldable pub needed_current : Panel → ℕ → ℕ → Bool
-needed_current p x y = all_below 4 (λ a. (mark p.second (needed p x y a)).current)
+needed_current p x y = all_below 4 (λ a. is_current (mark p.second (needed p x y a)))
 
 -- One part of the control point in row a and column b of the sixteen.
 abbrev pub around : Panel → Grid → ℕ → ℕ → ℕ → ℕ → ℕ → ℤ
-around p controls part x y a b = at p.columns controls part (line_around p.rows x a) (line_around p.columns y b)
+around p controls part x y a b = at p.size.columns controls part (line_around p.size.rows x a) (line_around p.size.columns y b)
 
 -- Every part of the sixteen lies within reach.
 unfoldable pub needed_within : ℕ → Panel → Grid → ℕ → ℕ → Bool
@@ -36,7 +36,7 @@ needed_within parts p controls x y = all_below parts (λ k. within_reach (around
 
 -- One part of the reading.
 abbrev pub reading : Panel → Grid → ℕ → ℕ → ℕ → ℤ
-reading p controls x y part = rounded (patch_sum p.rows p.columns (at p.columns controls part) x y)
+reading p controls x y part = rounded (patch_sum p.size.rows p.size.columns (at p.size.columns controls part) x y)
 
 -- The greatest of f at 1 to n.
 abbrev pub greatest : (ℕ → ℕ) → ℕ → ℕ
@@ -46,7 +46,7 @@ greatest f (suc n) = max (f (suc n)) (greatest f n)
 -- The tolerance: the greatest grade of the needed second lines, three times the greatest grade of all first lines, and 1.
 abbrev pub tolerance : Panel → ℕ → ℕ → ℕ
 tolerance p x y =
-    tolerance_of (greatest (λ i. (mark p.first i).grade) (first_lines p)) (greatest (λ a. (mark p.second (needed p x y (a - 1))).grade) 4)
+    tolerance_of (greatest (λ i. grade_of (mark p.first i)) (first_lines p)) (greatest (λ a. grade_of (mark p.second (needed p x y (a - 1)))) 4)
 
 -- The checks in their order, then the parts of the reading and the tolerance.
 abbrev pub read_answer : ℕ → Panel → Grid → ℤ → ℤ → Result (List ℤ × ℕ) PanelFault

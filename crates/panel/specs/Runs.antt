@@ -97,11 +97,11 @@ pub record Faithful (parts : ℕ) (p : Panel) (made : Grid) (h : History) (x y :
   pub ran : (a : ℕ) → a < 4 → ran_since h (needed p x y a) ≡ true
   pub stated : tolerance ≡ second_most p h x y + 3 * first_most p h + 1
   pub has_surface : (part : ℕ) → OnLine parts part →
-      (N : ℕ → ℕ → ℤ) × (D : ℕ) × ExactGrid sum_at p.rows p.columns (held p.columns made h part) N D
+      (N : ℕ → ℕ → ℤ) × (D : ℕ) × ExactGrid sum_at p.size.rows p.size.columns (held p.size.columns made h part) N D
   pub near_surface : (part : ℕ) → OnLine parts part → (N : ℕ → ℕ → ℤ) (D : ℕ) →
-      ExactGrid sum_at p.rows p.columns (held p.columns made h part) N D → Near p.rows p.columns N D x y (reading part) tolerance
+      ExactGrid sum_at p.size.rows p.size.columns (held p.size.columns made h part) N D → Near p.size.rows p.size.columns N D x y (reading part) tolerance
   pub near_sample : (r s : ℕ) → x ≡ 32 * r → y ≡ 32 * s → (part : ℕ) → OnLine parts part →
-      6 * unsigned_abs (reading part -ℤ pos 16 *ℤ held p.columns made h part r s) ≤ second_most p h x y + first_most p h + 3
+      6 * unsigned_abs (reading part -ℤ pos 16 *ℤ held p.size.columns made h part r s) ≤ second_most p h x y + first_most p h + 3
 
 -- The answer of read: a faithful reading, or the refusal of a stale line together with a needed line that has not run since.
 abbrev pub ReadsFaithfully : ℕ → Panel → Grid → History → ℕ → ℕ → Result (List ℤ × ℕ) PanelFault → Type 0
@@ -123,7 +123,7 @@ pub record OneSurface (rows columns : ℕ) (sample : ℕ → ℕ → ℤ) : Type
 -- So do the samples of every grid that make accepts, part by part.
 abbrev pub HasOneSurface : ℕ → Grid → Result Panel PanelFault → Type 0
 HasOneSurface parts samples r =
-    IfOk r (λ p. (part : ℕ) → OnLine parts part → OneSurface p.rows p.columns (at p.columns samples part))
+    IfOk r (λ p. (part : ℕ) → OnLine parts part → OneSurface p.size.rows p.size.columns (at p.size.columns samples part))
 
 -- On a panel that calls have reached no solver refuses. A first line is refused only for its number.
 abbrev pub first_refusals : Panel → ℤ → Answer

@@ -72,6 +72,6 @@ impl Panel {
     pub(crate) fn is_sized<K: Sample>(&self, grid: &[K]) -> bool
         ensures { result ≡ sized self.now (map K.Sample.parts grid.now) }
     {
-        has_length(grid, self.count())
+        has_length(grid, self.size.count())
     }
 }

@@ -34,8 +34,8 @@ impl Panel {
     {
         let _ = mark_count(&self.first);
         may_make(
-            self.rows as i32,
-            self.columns as i32,
+            self.size.rows as i32,
+            self.size.columns as i32,
             samples,
             halves,
             controls,

@@ -11,7 +11,7 @@ ghost use Rattle.panel.specs.Runs.Event.{first_ran, second_ran};
 use crate::checks::{check, is_between};
 use crate::lane::{Lane, solve_parts, store_solved};
 use crate::marks::{all_current, let_go, run_at};
-use crate::record::{Order, Panel};
+use crate::record::Panel;
 use grid::sample::Sample;
 use line::solver::LineSolver;
 use panel_fault::PanelFault;
@@ -22,9 +22,9 @@ impl Panel {
         ensures { result ≡ row_lane self.now row }
     {
         Lane {
-            start: (row - 1) * self.columns as usize,
+            start: (row - 1) * self.size.columns as usize,
             step: 1,
-            count: self.columns as usize,
+            count: self.size.columns as usize,
         }
     }
 
@@ -34,8 +34,8 @@ impl Panel {
     {
         Lane {
             start: column - 1,
-            step: self.columns as usize,
-            count: self.rows as usize,
+            step: self.size.columns as usize,
+            count: self.size.rows as usize,
         }
     }
 
@@ -43,20 +43,14 @@ impl Panel {
         requires { (1 ≤ line) × (line < 256) }
         ensures { result ≡ first_lane self.now line }
     {
-        match self.order {
-            Order::RowsFirst => self.row_lane(line),
-            Order::ColumnsFirst => self.column_lane(line),
-        }
+        self.order.pick(self.row_lane(line), self.column_lane(line))
     }
 
     fn second_lane(&self, line: usize) -> Lane
         requires { (1 ≤ line) × (line < 256) }
         ensures { result ≡ second_lane self.now line }
     {
-        match self.order {
-            Order::RowsFirst => self.column_lane(line),
-            Order::ColumnsFirst => self.row_lane(line),
-        }
+        self.order.pick(self.column_lane(line), self.row_lane(line))
     }
 
     // The checks of a line call before the solver's own.

@@ -7,6 +7,7 @@ use crate::checks::{check, grid_within, has_length, is_between};
 use crate::marks::no_marks;
 use crate::record::{Order, Panel};
 use grid::sample::Sample;
+use grid::size::GridSize;
 use panel_fault::PanelFault;
 
 // The checks of make, in their order.
@@ -41,8 +42,10 @@ fn made<K: Sample>(
 {
     may_make(rows, columns, samples, halves, controls)?;
     Ok(Panel {
-        rows: rows as u8,
-        columns: columns as u8,
+        size: GridSize {
+            rows: rows as u8,
+            columns: columns as u8,
+        },
         order,
         probes: 0,
         first: no_marks(),

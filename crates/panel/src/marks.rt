@@ -1,31 +1,25 @@
 // The marks of lines: which are current, which go stale, and the grade of each.
-ghost use Rattle.std.specs.Prelude.{◌≡◌, ◌≤◌, max, length, replicate, slice_index};
+ghost use Rattle.std.specs.Prelude.{◌≡◌, ◌≤◌, length, replicate, slice_index};
 ghost use Rattle.surface.specs.Patch.{all_below};
+ghost use Rattle.panel.specs.declared.record.Mark.TheVariants.{Unrun};
+ghost use Rattle.panel.specs.Calls.{mark, grade_of, is_current, stale, stale_at, ran_at, all_current};
 ghost use Rattle.panel.specs.Reading.{greatest};
-ghost use Rattle.panel.specs.Calls.{unrun, mark, stale, stale_at, ran_at, all_current};
 
 use crate::record::Mark;
 
 // No line has run.
 pub(crate) fn no_marks() -> [Mark; 64]
-    ensures { result ≡ replicate 64 unrun }
+    ensures { result ≡ replicate 64 Unrun }
 {
-    [Mark {
-        grade: 0,
-        current: false,
-    }; 64]
+    [Mark::Unrun; 64]
 }
 
 // Every line goes stale and keeps its grade.
 pub(crate) fn let_go(marks: &mut [Mark])
     ensures { marks.new ≡ stale marks.old }
 {
-    for i in 0..marks.len() {
-        let old = marks[i];
-        marks[i] = Mark {
-            grade: old.grade,
-            current: false,
-        };
+    for mark in marks {
+        *mark = mark.let_go();
     }
 }
 
@@ -35,11 +29,7 @@ pub(crate) fn let_go_at(marks: &mut [Mark], line: usize)
     ensures { marks.new ≡ stale_at marks.old line }
 {
     if line <= marks.len() {
-        let old = marks[line - 1];
-        marks[line - 1] = Mark {
-            grade: old.grade,
-            current: false,
-        };
+        marks[line - 1] = marks[line - 1].let_go();
     }
 }
 
@@ -49,10 +39,7 @@ pub(crate) fn run_at(marks: &mut [Mark], line: usize, grade: u8)
     ensures { marks.new ≡ ran_at marks.old line grade }
 {
     if line <= marks.len() {
-        marks[line - 1] = Mark {
-            grade,
-            current: true,
-        };
+        marks[line - 1] = Mark::Current(grade);
     }
 }
 
@@ -60,63 +47,40 @@ pub(crate) fn run_at(marks: &mut [Mark], line: usize, grade: u8)
 pub(crate) fn mark_of(marks: &[Mark], line: usize) -> Mark
     ensures { result ≡ mark marks.now line }
 {
-    let index = line.saturating_sub(1);
-    if index < marks.len() {
-        marks[index]
-    } else {
-        Mark {
-            grade: 0,
-            current: false,
-        }
-    }
+    marks
+        .get(line.saturating_sub(1))
+        .copied()
+        .unwrap_or(Mark::Unrun)
 }
 
 // Whether a line is current.
 pub(crate) fn is_current(marks: &[Mark], line: usize) -> bool
-    ensures { result ≡ (mark marks.now line).current }
+    ensures { result ≡ is_current (mark marks.now line) }
 {
-    let found = mark_of(marks, line);
-    found.current
+    mark_of(marks, line).is_current()
 }
 
 // Whether lines 1 to `count` are all current.
 pub(crate) fn all_current(marks: &[Mark], count: usize) -> bool
     ensures { result ≡ all_current count marks.now }
 {
-    for i in 0..count {
-        if !is_current(marks, i + 1) {
-            return false;
-        }
-    }
-    true
+    (0..count).all(|i| is_current(marks, i + 1))
 }
 
 // Whether four lines are current.
 pub(crate) fn are_current(marks: &[Mark], lines: &[usize; 4]) -> bool
-    ensures { result ≡ all_below 4 (λ a. (mark marks.now (slice_index lines.now a)).current) }
+    ensures { result ≡ all_below 4 (λ a. is_current (mark marks.now (slice_index lines.now a))) }
 {
-    is_current(marks, lines[3])
-        && is_current(marks, lines[2])
-        && is_current(marks, lines[1])
-        && is_current(marks, lines[0])
-}
-
-// The greater of two grades.
-pub(crate) fn greater(grade: u8, most: u8) -> u8
-    ensures { result ≡ max grade most }
-{
-    grade.max(most)
+    lines.iter().all(|&line| is_current(marks, line))
 }
 
 // The greatest grade of lines 1 to `count`.
 pub(crate) fn greatest_grade(marks: &[Mark], count: usize) -> u8
-    ensures { result ≡ greatest (λ i. (mark marks.now i).grade) count }
+    ensures { result ≡ greatest (λ i. grade_of (mark marks.now i)) count }
 {
-    let used = count.min(marks.len());
     let mut most = 0;
-    for i in 0..used {
-        let line = marks[i];
-        most = greater(line.grade, most);
+    for mark in &marks[..count.min(marks.len())] {
+        most = mark.grade().max(most);
     }
     most
 }

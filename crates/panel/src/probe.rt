@@ -16,9 +16,9 @@ use panel_fault::PanelFault;
 impl Panel {
     // Whether the grids have the place.
     fn has_place(&self, row: i32, column: i32) -> bool
-        ensures { result ≡ (between row 1 self.now.rows && between column 1 self.now.columns) }
+        ensures { result ≡ (between row 1 self.now.size.rows && between column 1 self.now.size.columns) }
     {
-        is_between(row, 1, self.rows as usize) && is_between(column, 1, self.columns as usize)
+        is_between(row, 1, self.size.rows as usize) && is_between(column, 1, self.size.columns as usize)
     }
 
     // The checks of a probe, in their order.
@@ -59,12 +59,12 @@ impl Panel {
         ensures answer { result ≡ probe_answer self.old (map K.Sample.parts samples.old) row column (K.Sample.parts new) }
         ensures panel { self.new ≡ probe_panel self.old (map K.Sample.parts samples.old) row column (K.Sample.parts new) }
         ensures after { map K.Sample.parts samples.new ≡ probe_samples self.old (map K.Sample.parts samples.old) row column (K.Sample.parts new) }
-        ensures same { samples.new ≡ if_ok result (slice_set samples.old (index self.old.columns (unsigned_abs row) (unsigned_abs column)) new) samples.old }
+        ensures same { samples.new ≡ if_ok result (slice_set samples.old (index self.old.size.columns (unsigned_abs row) (unsigned_abs column)) new) samples.old }
     {
         self.may_probe(samples, row, column, &new)?;
         let k = index_of(
             samples.len(),
-            self.columns as usize,
+            self.size.columns as usize,
             row as usize,
             column as usize,
         );
@@ -84,7 +84,7 @@ impl Panel {
         ensures answer { result ≡ probe_answer self.old (map K.Sample.parts samples.old) row column (K.Sample.parts new) }
         ensures panel { self.new ≡ probe_panel self.old (map K.Sample.parts samples.old) row column (K.Sample.parts new) }
         ensures after { map K.Sample.parts samples.new ≡ probe_samples self.old (map K.Sample.parts samples.old) row column (K.Sample.parts new) }
-        ensures same { samples.new ≡ if_ok result (slice_set samples.old (index self.old.columns (unsigned_abs row) (unsigned_abs column)) new) samples.old }
+        ensures same { samples.new ≡ if_ok result (slice_set samples.old (index self.old.size.columns (unsigned_abs row) (unsigned_abs column)) new) samples.old }
         ensures reached { (made halves controls : Grid) (h : History) →
             Reached K.Sample.PARTS made (record { panel = self.old; samples = map K.Sample.parts samples.old; halves = halves; controls = controls }) h →
             Reached K.Sample.PARTS made (record { panel = self.new; samples = map K.Sample.parts samples.new; halves = halves; controls = controls })

@@ -6,13 +6,13 @@ ghost use Rattle.grid.specs.Checks.{check as checked};
 ghost use Rattle.grid.specs.Grid.{Grid, at};
 ghost use Rattle.line.specs.Line.{OnLine};
 ghost use Rattle.surface.specs.Patch.{within_reach};
-ghost use Rattle.panel.specs.Calls.{sized, mark, first_lines};
+ghost use Rattle.panel.specs.Calls.{sized, mark, grade_of, first_lines};
 ghost use Rattle.panel.specs.Reading.{InArea, in_area, needed as needed_line, needed_current, needed_within, around, reading as part_read, greatest, tolerance as stated, read_answer, shown, sample_shown};
 ghost use Rattle.panel.specs.Runs.{Reached, History, ReadsFaithfully};
 
 use crate::checks::{check, is_between};
-use crate::marks::{are_current, greater, greatest_grade, mark_of};
-use crate::record::{Order, Panel, index_of};
+use crate::marks::{are_current, greatest_grade, mark_of};
+use crate::record::{Panel, index_of};
 use grid::sample::Sample;
 use panel_fault::PanelFault;
 use surface::patch::{lines_around, patch_reading, tolerance};
@@ -29,17 +29,14 @@ impl Panel {
     fn has_in_area(&self, x: i32, y: i32) -> bool
         ensures { result ≡ in_area self.now x y }
     {
-        is_between(x, 32, last_before(self.rows)) && is_between(y, 32, last_before(self.columns))
+        is_between(x, 32, last_before(self.size.rows)) && is_between(y, 32, last_before(self.size.columns))
     }
 
     // The second lines through the sixteen control points around a place.
     fn needed(&self, x: usize, y: usize) -> [usize; 4]
         ensures { result ≡ map (needed_line self.now x y) (range_with_len 0 4) }
     {
-        match self.order {
-            Order::RowsFirst => lines_around(self.columns as usize, y),
-            Order::ColumnsFirst => lines_around(self.rows as usize, x),
-        }
+        lines_around(self.second_lines(), self.order.pick(y, x))
     }
 
     // Whether each of them is current.
@@ -63,20 +60,18 @@ impl Panel {
 
     // The greatest grade of all first lines.
     fn first_grade(&self) -> u8
-        ensures { result ≡ greatest (λ i. (mark self.now.first i).grade) (first_lines self.now) }
+        ensures { result ≡ greatest (λ i. grade_of (mark self.now.first i)) (first_lines self.now) }
     {
         greatest_grade(&self.first, self.first_lines())
     }
 
     // The greatest grade of the second lines that a reading needs.
     fn second_grade(&self, x: usize, y: usize) -> u8
-        ensures { result ≡ greatest (λ a. (mark self.now.second (needed_line self.now x y (a - 1))).grade) 4 }
+        ensures { result ≡ greatest (λ a. grade_of (mark self.now.second (needed_line self.now x y (a - 1)))) 4 }
     {
-        let lines = self.needed(x, y);
-        let mut most = 0u8;
-        for a in 0..4 {
-            let line = mark_of(&self.second, lines[a]);
-            most = greater(line.grade, most);
+        let mut most = 0;
+        for line in &self.needed(x, y) {
+            most = mark_of(&self.second, *line).grade().max(most);
         }
         most
     }
@@ -90,10 +85,10 @@ impl Panel {
 
     // One part of the control point at a row and a column.
     fn control<K: Sample>(&self, controls: &[K], part: usize, row: usize, column: usize) -> i32
-        requires { (length controls.now ≡ self.now.rows * self.now.columns) × ((OnLine self.now.rows row) × (OnLine self.now.columns column)) }
-        ensures { result ≡ at self.now.columns (map K.Sample.parts controls.now) part row column }
+        requires { (length controls.now ≡ self.now.size.rows * self.now.size.columns) × ((OnLine self.now.size.rows row) × (OnLine self.now.size.columns column)) }
+        ensures { result ≡ at self.now.size.columns (map K.Sample.parts controls.now) part row column }
     {
-        let k = index_of(controls.len(), self.columns as usize, row, column);
+        let k = index_of(controls.len(), self.size.columns as usize, row, column);
         controls[k].part(part)
     }
 
@@ -105,8 +100,8 @@ impl Panel {
         row: usize,
         columns: &[usize; 4],
     ) -> [i32; 4]
-        requires { (length controls.now ≡ self.now.rows * self.now.columns) × ((OnLine self.now.rows row) × (((b : ℕ) → b < 4 → OnLine self.now.columns (slice_index columns.now b)))) }
-        ensures { result ≡ map (λ b. at self.now.columns (map K.Sample.parts controls.now) part row (slice_index columns.now b)) (range_with_len 0 4) }
+        requires { (length controls.now ≡ self.now.size.rows * self.now.size.columns) × ((OnLine self.now.size.rows row) × (((b : ℕ) → b < 4 → OnLine self.now.size.columns (slice_index columns.now b)))) }
+        ensures { result ≡ map (λ b. at self.now.size.columns (map K.Sample.parts controls.now) part row (slice_index columns.now b)) (range_with_len 0 4) }
     {
         [
             self.control(controls, part, row, columns[0]),
@@ -118,11 +113,11 @@ impl Panel {
 
     // One part of the sixteen control points around a place, row by row.
     fn patch<K: Sample>(&self, controls: &[K], part: usize, x: usize, y: usize) -> [[i32; 4]; 4]
-        requires { (length controls.now ≡ self.now.rows * self.now.columns) × (InArea self.now x y) }
+        requires { (length controls.now ≡ self.now.size.rows * self.now.size.columns) × (InArea self.now x y) }
         ensures { result ≡ map (λ a. map (around self.now (map K.Sample.parts controls.now) part x y a) (range_with_len 0 4)) (range_with_len 0 4) }
     {
-        let rows = lines_around(self.rows as usize, x);
-        let columns = lines_around(self.columns as usize, y);
+        let rows = lines_around(self.size.rows as usize, x);
+        let columns = lines_around(self.size.columns as usize, y);
         [
             self.four_controls(controls, part, rows[0], &columns),
             self.four_controls(controls, part, rows[1], &columns),
@@ -139,7 +134,7 @@ impl Panel {
         x: usize,
         y: usize,
     ) -> Option<i32>
-        requires { (length controls.now ≡ self.now.rows * self.now.columns) × (InArea self.now x y) }
+        requires { (length controls.now ≡ self.now.size.rows * self.now.size.columns) × (InArea self.now x y) }
         ensures { result ≡ cond (within_reach (around self.now (map K.Sample.parts controls.now) part x y)) (Some (part_read self.now (map K.Sample.parts controls.now) x y part)) None }
     {
         patch_reading(&self.patch(controls, part, x, y), x, y)
@@ -147,7 +142,7 @@ impl Panel {
 
     // The reading as a sample: any sample of the kind, with each part replaced.
     fn reading<K: Sample>(&self, controls: &[K], x: usize, y: usize) -> Result<K, PanelFault>
-        requires { (length controls.now ≡ self.now.rows * self.now.columns) × (InArea self.now x y) }
+        requires { (length controls.now ≡ self.now.size.rows * self.now.size.columns) × (InArea self.now x y) }
         ensures { sample_shown K.Sample.parts result ≡ result_and (checked (needed_within K.Sample.PARTS self.now (map K.Sample.parts controls.now) x y) PanelFault.ControlBeyond) (Ok (map (part_read self.now (map K.Sample.parts controls.now) x y) (range_with_len 1 K.Sample.PARTS))) }
     {
         let mut sample = controls[0];

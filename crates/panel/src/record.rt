@@ -1,7 +1,9 @@
 // What a panel is: its sizes, its line order, how often it was probed, and a mark for each line.
 ghost use Rattle.std.specs.Prelude.{◌≡◌, ◌*◌, ◌<◌, ◌≤◌};
 ghost use Rattle.grid.specs.Place.{index};
-ghost use Rattle.panel.specs.Calls.{pick as chosen, first_lines, second_lines};
+ghost use Rattle.panel.specs.Calls.{pick as chosen, first_lines, second_lines, grade_of, is_current, let_go};
+
+use grid::size::GridSize;
 
 // Which lines are fitted first: the rows, and then the columns, or the reverse.
 #[derive(Clone, Copy, PartialEq, Eq, Debug)]
@@ -10,27 +12,55 @@ pub enum Order {
     ColumnsFirst,
 }
 
-// What is known of a line: the grade of the solver that last ran it, 0 if none did, and whether it is current.
-#[derive(Clone, Copy)]
-pub struct Mark {
-    pub(crate) grade: u8,
-    pub(crate) current: bool,
+// What is known of a line: whether a solver ran it, of which grade, and whether all that the line rests on is still as it then was.
+#[derive(Clone, Copy, PartialEq, Eq, Debug)]
+pub enum Mark {
+    Unrun,
+    Stale(u8),
+    Current(u8),
 }
 
 // The caller keeps the grids and lends them to each call; the panel keeps what is known of them.
 #[derive(Drop)]
 pub struct Panel {
-    pub(crate) rows: u8,
-    pub(crate) columns: u8,
+    pub(crate) size: GridSize,
     pub(crate) order: Order,
     pub(crate) probes: u32,
     pub(crate) first: [Mark; 64],
     pub(crate) second: [Mark; 64],
 }
 
+impl Mark {
+    // The grade of the solver that last ran the line, 0 if none did.
+    pub(crate) fn grade(self) -> u8
+        ensures { result ≡ grade_of self }
+    {
+        match self {
+            Mark::Unrun => 0,
+            Mark::Stale(grade) | Mark::Current(grade) => grade,
+        }
+    }
+
+    pub(crate) fn is_current(self) -> bool
+        ensures { result ≡ is_current self }
+    {
+        matches!(self, Mark::Current(_))
+    }
+
+    // The line goes stale and keeps its grade.
+    pub(crate) fn let_go(self) -> Mark
+        ensures { result ≡ let_go self }
+    {
+        match self {
+            Mark::Current(grade) => Mark::Stale(grade),
+            other => other,
+        }
+    }
+}
+
 impl Order {
     // One thing or the other, as rows or columns come first.
-    pub(crate) fn pick(self, rows_first: usize, columns_first: usize) -> usize
+    pub(crate) fn pick<T: Drop>(self, rows_first: T, columns_first: T) -> T
         ensures { result ≡ chosen self rows_first columns_first }
     {
         match self {
@@ -41,22 +71,12 @@ impl Order {
 }
 
 impl Panel {
-    // How many samples each grid has.
-    pub(crate) fn count(&self) -> usize
-        ensures { result ≡ self.now.rows * self.now.columns }
-    {
-        self.rows as usize * self.columns as usize
-    }
-
     // How many first lines there are.
     pub(crate) fn first_lines(&self) -> usize
         ensures value { result ≡ first_lines self.now }
         ensures few { result < 256 }
     {
-        match self.order {
-            Order::RowsFirst => self.rows as usize,
-            Order::ColumnsFirst => self.columns as usize,
-        }
+        usize::from(self.order.pick(self.size.rows, self.size.columns))
     }
 
     // How many second lines there are.
@@ -64,10 +84,7 @@ impl Panel {
         ensures value { result ≡ second_lines self.now }
         ensures few { result < 256 }
     {
-        match self.order {
-            Order::RowsFirst => self.columns as usize,
-            Order::ColumnsFirst => self.rows as usize,
-        }
+        usize::from(self.order.pick(self.size.columns, self.size.rows))
     }
 }
 

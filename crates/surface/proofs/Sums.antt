@@ -1,5 +1,5 @@
 -- Sums of weighed numbers stay within 64 bits.
-use Rattle.std.proofs.Common.{◌≡◌, ℕ, zero, suc, ◌*◌, ◌%◌, ◌^◌, ◌<◌, ◌≤◌, Bool, true, cond, leb, List, [], ◌∷◌, get_or, ℤ, pos, ◌+ℤ◌, ◌*ℤ◌, nat_abs, Some, None, sym, ap, ◌∙◌, mul-le-mul, arith, w32, w64, SFits, to_z, of_z}
+use Rattle.std.proofs.Common.{◌≡◌, ℕ, zero, suc, ◌*◌, ◌%◌, ◌^◌, ◌<◌, ◌≤◌, Bool, true, cond, leb, List, [], ◌∷◌, get_or, ℤ, pos, ◌+ℤ◌, ◌*ℤ◌, nat_abs, Some, None, refl, sym, ap, ◌∙◌, mul-le-mul, arith, w32, w64, SFits, to_z, of_z}
 use lib.Signed.{mag}
 use Rattle.std.proofs.lemmas.Int.{ints, to_z-of_z}
 use Rattle.std.proofs.lemmas.Bool.{leb-true}
@@ -7,8 +7,9 @@ use Rattle.line.proofs.Casts.{fits64, same64}
 use Rattle.line.specs.Products.{abs-*}
 use Rattle.surface.specs.Surface.{weight, rounded}
 use Rattle.surface.specs.Products.{Low, products, products_of}
-use Rattle.surface.specs.Patch.{all_below, reach, within_reach, weights_at, point, sum_around, patch_reading}
-use Rattle.surface.proofs.Below.{at_below}
+use Rattle.surface.specs.Patch.{reach, rows_within, weights_at, point, sum_around, patch_reading}
+use Rattle.std.specs.List.{list_all}
+use Rattle.surface.proofs.Below.{all_at}
 use Rattle.surface.proofs.Readings.{blend_rows}
 
 -- a product, as the code computes it
@@ -59,38 +60,19 @@ kept_four a b c d p q r s (suc (suc zero)) h = kept c r
 kept_four a b c d p q r s (suc (suc (suc zero))) h = kept d s
 kept_four a b c d p q r s (suc (suc (suc (suc i)))) h = absurd (omega arith)
 
--- a point widened to 64 bits
-widened : (z q : ℤ) → nat_abs z ≤ reach → q ≡ to_z w32 (of_z w32 z) → to_z w64 (of_z w64 q) ≡ z
-widened z q h e = let same : q ≡ z = omega (arith, ints) in ap (λ (v : ℤ). to_z w64 (of_z w64 v)) same ∙ same64 z (omega arith)
-
--- the sum of a row, as the code computes it
-module _ (w row : List ℤ) (a b c d sum : ℤ) (w_low : Low 131072 w) (low : Low reach row) (fits : mag sum < 2 ^ 63)
-    (a_is : a ≡ to_z w32 (of_z w32 (get_or row 0 (pos 0)))) (b_is : b ≡ to_z w32 (of_z w32 (get_or row 1 (pos 0))))
-    (c_is : c ≡ to_z w32 (of_z w32 (get_or row 2 (pos 0)))) (d_is : d ≡ to_z w32 (of_z w32 (get_or row 3 (pos 0))))
-    (sum_is : sum ≡ products w (to_z w64 (of_z w64 a) ∷ to_z w64 (of_z w64 b) ∷ to_z w64 (of_z w64 c) ∷ to_z w64 (of_z w64 d) ∷ [])) where
-  pub row_is : to_z w64 (of_z w64 sum) ≡ products w row
-  row_is =
-      let p = widened (get_or row 0 (pos 0)) a (low 0 (omega arith)) a_is in
-      let q = widened (get_or row 1 (pos 0)) b (low 1 (omega arith)) b_is in
-      let r = widened (get_or row 2 (pos 0)) c (low 2 (omega arith)) c_is in
-      let s = widened (get_or row 3 (pos 0)) d (low 3 (omega arith)) d_is in
-      let e : sum ≡ products w row = cc in
-      to_z-of_z w64 sum (record { sfits = fits }) ∙ e
-
-  pub row_low : nat_abs (to_z w64 (of_z w64 sum)) ≤ 8388608000000
-  row_low = rw row_is (products_low w row reach w_low low)
-
--- sixteen points within reach, one by one
-pub point_low : (c : ℕ → ℕ → ℤ) → within_reach c ≡ true → (a b : ℕ) → a < 4 → b < 4 → nat_abs (c a b) ≤ reach
-point_low c e a b h k =
-    leb-true (nat_abs (c a b)) reach (at_below 4 (λ b. leb (nat_abs (c a b)) reach) (at_below 4 (λ a. all_below 4 (λ b. leb (nat_abs (c a b)) reach)) e a h) b k)
+-- points within reach, one by one
+pub point_low : (rows : List (List ℤ)) → rows_within rows ≡ true → (a b : ℕ) → nat_abs (point rows a b) ≤ reach
+point_low rows within a b = leb-true (nat_abs (point rows a b)) reach (all_at low (get_or rows a []) (pos 0) refl (all_at (list_all low) rows [] refl within a) b)
+  where
+    low : ℤ → Bool
+    low v = leb (nat_abs v) reach
 
 -- the reading, as the code computes it
 pub sum_is : (x y : ℕ) (c : List (List ℤ)) → products_of (weights_at x) (λ a. products (weights_at y) (get_or c a [])) ≡ sum_around (point c) x y
 sum_is x y c = sym (blend_rows (λ a. weight a (x % 32)) (λ b. weight b (y % 32)) (point c))
 
 module _ (x y : ℕ) (rows : List (List ℤ)) (sum reading : ℤ) (sum_fits : mag sum < 2 ^ 63) (reading_fits : mag reading < 2 ^ 31) where
-  pub reading_is : within_reach (point rows) ≡ true → sum ≡ products_of (weights_at x) (λ a. products (weights_at y) (get_or rows a [])) →
+  pub reading_is : rows_within rows ≡ true → sum ≡ products_of (weights_at x) (λ a. products (weights_at y) (get_or rows a [])) →
       reading ≡ rounded (to_z w64 (of_z w64 sum)) → Some (to_z w32 (of_z w32 reading)) ≡ patch_reading rows x y
   reading_is within is rounds =
       let around : to_z w64 (of_z w64 sum) ≡ sum_around (point rows) x y = to_z-of_z w64 sum (record { sfits = sum_fits }) ∙ is ∙ sum_is x y rows in

@@ -1,6 +1,6 @@
 -- What the calls about one place answer: the lines around it, its weights, the reading of its sixteen points.
-use Rattle.std.specs.Prelude.{ℕ, zero, suc, ◌%◌, Bool, true, cond, ◌&&◌, List, [], map, ℤ, pos, Some, None, Option, nat_le, slice_index_or, unsigned_abs}
-use Rattle.std.specs.List.{range_with_len}
+use Rattle.std.specs.Prelude.{ℕ, ◌%◌, Bool, if◌then◌else◌, List, [], map, ℤ, pos, Some, None, Option, nat_le, slice_index_or, unsigned_abs}
+use Rattle.std.specs.List.{list_all, range_with_len}
 use Rattle.surface.specs.Surface.{weight, line_around, blend, rounded}
 
 -- The four rows or columns, of n, around a place.
@@ -17,14 +17,17 @@ reach = 16000000
 
 -- A test passes at every number below n.
 abbrev pub all_below : ℕ → (ℕ → Bool) → Bool
-all_below zero f = true
-all_below (suc n) f = f n && all_below n f
+all_below n f = list_all f (range_with_len 0 n)
 
 -- The number of row a and column b, each from 0 to 3, of four rows of four.
 abbrev pub point : List (List ℤ) → ℕ → ℕ → ℤ
 point rows a b = slice_index_or (slice_index_or rows a []) b (pos 0)
 
--- Sixteen points lie within reach.
+-- Rows of points all lie within reach.
+abbrev pub rows_within : List (List ℤ) → Bool
+rows_within = list_all (list_all (λ point. nat_le (unsigned_abs point) reach))
+
+-- Sixteen points, by row and column from 0, lie within reach.
 abbrev pub within_reach : (ℕ → ℕ → ℤ) → Bool
 within_reach c = all_below 4 (λ a. all_below 4 (λ b. nat_le (unsigned_abs (c a b)) reach))
 
@@ -34,4 +37,4 @@ sum_around c x y = blend (λ a. weight a (x % 32)) (λ b. weight b (y % 32)) c
 
 -- The reading of sixteen points around a place: none if one lies beyond reach.
 abbrev pub patch_reading : List (List ℤ) → ℕ → ℕ → Option ℤ
-patch_reading rows x y = cond (within_reach (point rows)) (Some (rounded (sum_around (point rows) x y))) None
+patch_reading rows x y = if rows_within rows then Some (rounded (sum_around (point rows) x y)) else None

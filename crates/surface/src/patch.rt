@@ -1,10 +1,11 @@
 // One place of the surface: the lines around it, its weights, and the reading of its sixteen control points.
 // Places are in 32nds of the way from one row or column to the next, with row 1 and column 1 at 32.
 ghost use Rattle.std.specs.Prelude.{◌≡◌, ℕ, ◌+◌, ◌-◌, ◌*◌, ◌%◌, ◌^◌, ◌<◌, ◌≤◌, max, true, [], pos, ◌+ℤ◌, ◌-ℤ◌, ◌*ℤ◌, nat_le, slice_index, slice_index_or, unsigned_abs};
+ghost use Rattle.std.specs.List.{list_all};
 ghost use Rattle.line.specs.Line.{clamped};
 ghost use Rattle.surface.specs.Surface.{weight, F, floored, rounded, tolerance_of};
 ghost use Rattle.surface.specs.Products.{Low, products, products_of};
-ghost use Rattle.surface.specs.Patch.{lines_around, weights_at, reach, all_below, point, within_reach, patch_reading};
+ghost use Rattle.surface.specs.Patch.{lines_around, weights_at, reach, rows_within, patch_reading};
 
 // Half of the 36 * 2^30 that the sixteen products of weights add up to.
 const HALF: i64 = 19_327_352_832;
@@ -16,13 +17,7 @@ const REACH: u32 = 16_000_000;
 fn line_before(count: usize, next: usize) -> usize
     ensures { result ≡ clamped count (next - 1) }
 {
-    if next < 2 || count < 1 {
-        1
-    } else if next > count {
-        count
-    } else {
-        next - 1
-    }
+    next.saturating_sub(1).clamp(1, count.max(1))
 }
 
 // The four lines, of so many rows or columns, whose control points bear on a place.
@@ -31,12 +26,7 @@ pub fn lines_around(count: usize, x: usize) -> [usize; 4]
     ensures on_line { (a : ℕ) → a < 4 → (1 ≤ slice_index result a) × (slice_index result a ≤ max 1 count) }
 {
     let next = x / 32;
-    [
-        line_before(count, next),
-        line_before(count, next + 1),
-        line_before(count, next + 2),
-        line_before(count, next + 3),
-    ]
+    [next, next + 1, next + 2, next + 3].map(|next| line_before(count, next))
 }
 
 // A cube, which fits for whatever is at most 32.
@@ -107,9 +97,9 @@ fn within(point: i32) -> bool
 
 // Whether all four points of a row are.
 fn row_within(row: &[i32; 4]) -> bool
-    ensures { result ≡ all_below 4 (λ b. nat_le (unsigned_abs (slice_index_or row.now b (pos 0))) reach) }
+    ensures { result ≡ list_all (λ point. nat_le (unsigned_abs point) reach) row.now }
 {
-    within(row[3]) && within(row[2]) && within(row[1]) && within(row[0])
+    row.iter().all(|&point| within(point))
 }
 
 // A number times a weight; both are low enough that the product fits.
@@ -130,69 +120,78 @@ fn sum_of(a: i64, b: i64, c: i64, d: i64) -> i64
     a + b + c + d
 }
 
-// Four numbers, each times its weight.
-fn weighed_sum(weights: &[i64; 4], numbers: &[i64; 4]) -> i64
-    requires weights_low { Low 131072 weights.now }
-    requires numbers_low { Low 8388608000000 numbers.now }
-    ensures { result ≡ products weights.now numbers.now }
+// A row in 64 bits.
+fn widened(row: &[i32; 4]) -> [i64; 4]
+    ensures { result ≡ row.now }
 {
-    sum_of(
-        weighed(weights[0], numbers[0]),
-        weighed(weights[1], numbers[1]),
-        weighed(weights[2], numbers[2]),
-        weighed(weights[3], numbers[3]),
-    )
+    row.map(|point| i64::from(point))
 }
 
-// The four points of a row, each times its weight.
-fn row_sum(weights: &[i64; 4], row: &[i32; 4]) -> i64
-    requires weights_low { Low 131072 weights.now }
-    requires row_low { Low reach row.now }
-    ensures value { result ≡ products weights.now row.now }
-    ensures low { unsigned_abs result ≤ 8388608000000 }
-{
-    weighed_sum(
-        weights,
-        &[
-            i64::from(row[0]),
-            i64::from(row[1]),
-            i64::from(row[2]),
-            i64::from(row[3]),
-        ],
-    )
+// The weights of four lines.
+#[derive(Clone, Copy)]
+struct LineWeights {
+    values: [i64; 4],
+    ghost low: { Low 131072 values },
 }
 
-// All sixteen points, each times its two weights: first within each row, then over the rows.
-fn sum_of_rows(down: &[i64; 4], across: &[i64; 4], rows: &[[i32; 4]; 4]) -> i64
-    requires down_low { Low 131072 down.now }
-    requires across_low { Low 131072 across.now }
-    requires rows_low { within_reach (point rows.now) ≡ true }
-    ensures { result ≡ products_of down.now (λ a. products across.now (slice_index_or rows.now a [])) }
-{
-    weighed_sum(
-        down,
-        &[
-            row_sum(across, &rows[0]),
-            row_sum(across, &rows[1]),
-            row_sum(across, &rows[2]),
-            row_sum(across, &rows[3]),
-        ],
-    )
+impl LineWeights {
+    // Those of the lines around a place.
+    fn at(x: usize) -> LineWeights
+        ensures { result.values ≡ weights_at x }
+    {
+        LineWeights { values: weights(x) }
+    }
+
+    // Four numbers, each times its weight, written out: a sum of signed numbers by an iterator has no bound to prove that it fits.
+    fn sum(&self, numbers: &[i64; 4]) -> i64
+        requires { Low 8388608000000 numbers.now }
+        ensures { result ≡ products self.now.values numbers.now }
+    {
+        sum_of(
+            weighed(self.values[0], numbers[0]),
+            weighed(self.values[1], numbers[1]),
+            weighed(self.values[2], numbers[2]),
+            weighed(self.values[3], numbers[3]),
+        )
+    }
+
+    // The four points of a row, each times its weight.
+    fn sum_of_row(&self, row: &[i32; 4]) -> i64
+        requires { Low reach row.now }
+        ensures value { result ≡ products self.now.values row.now }
+        ensures low { unsigned_abs result ≤ 8388608000000 }
+    {
+        self.sum(&widened(row))
+    }
+
+    // All sixteen points, each times its two weights: first within each row, then over the rows. Written out: as a closure, what is asked of
+    // a row would need clauses of its own.
+    fn sum_of_rows(&self, across: &LineWeights, rows: &[[i32; 4]; 4]) -> i64
+        requires { rows_within rows.now ≡ true }
+        ensures { result ≡ products_of self.now.values (λ a. products across.now.values (slice_index_or rows.now a [])) }
+    {
+        self.sum(&[
+            across.sum_of_row(&rows[0]),
+            across.sum_of_row(&rows[1]),
+            across.sum_of_row(&rows[2]),
+            across.sum_of_row(&rows[3]),
+        ])
+    }
 }
 
 // The same with the weights of a place: those of x for the rows, those of y within each row.
 fn sum_at(rows: &[[i32; 4]; 4], x: usize, y: usize) -> i64
-    requires { within_reach (point rows.now) ≡ true }
+    requires { rows_within rows.now ≡ true }
     ensures { result ≡ products_of (weights_at x) (λ a. products (weights_at y) (slice_index_or rows.now a [])) }
 {
-    sum_of_rows(&weights(x), &weights(y), rows)
+    LineWeights::at(x).sum_of_rows(&LineWeights::at(y), rows)
 }
 
 // Whether all sixteen points are read.
 fn rows_within(rows: &[[i32; 4]; 4]) -> bool
-    ensures { result ≡ within_reach (point rows.now) }
+    ensures { result ≡ rows_within rows.now }
 {
-    row_within(&rows[3]) && row_within(&rows[2]) && row_within(&rows[1]) && row_within(&rows[0])
+    rows.iter().all(|row| row_within(row))
 }
 
 // The reading at a place of its sixteen points, four rows of four; none if one of them lies beyond 16,000,000 either way.

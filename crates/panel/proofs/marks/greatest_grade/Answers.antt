@@ -1,20 +1,27 @@
-use Rattle.std.proofs.Common.{◌≡◌, ◌+◌, ◌-◌, get_or, ap, ◌∙◌, arith}
-use Rattle.std.proofs.lemmas.List.{get_or_past}
-use Rattle.panel.specs.Calls.{unrun, mark}
+use Rattle.std.proofs.Common.{◌≡◌, ◌+◌, ◌-◌, ◌<◌, length, get_or, take, ap, ◌∙◌, arith}
+use Rattle.std.proofs.lemmas.List.{get_or_past, get_or_default, get_or-take, length-take}
+use Rattle.panel.specs.declared.record.Mark.TheVariants.{Unrun}
+use Rattle.panel.specs.Calls.{mark, grade_of}
 use Rattle.panel.specs.Reading.{greatest}
 use Rattle.panel.proofs.Needed.{greatest_more, greatest_used}
 use Rattle.panel.proofs.marks.greatest_grade.Goals as goal
 
-pub loop-i-preserved : goal.loop-i-preserved
-loop-i-preserved c =
+pub loop-mark-preserved : goal.loop-mark-preserved
+loop-mark-preserved c =
     let ks = c.args.marks.now in
-    let back : c.loop-i.i ≡ c.loop-i.i + 1 - 1 = omega arith in
-    greatest_more (λ i. (mark ks i).grade) c.loop-i.i c.loop-i.most _ _ c.loop-i.invariant (ap (λ k. (get_or ks k unrun).grade) back) c.greater-most.ensures
+    let i = c.loop-mark.mark-index in
+    let used = c.min.result in
+    let low : i < used = omega (arith, length-take used ks) in
+    let back : i ≡ i + 1 - 1 = omega arith in
+    greatest_more (λ i. grade_of (mark ks i)) i c.loop-mark.most _ _ c.loop-mark.invariant
+    (c.grade.ensures ∙ ap grade_of (get_or_default (take used ks) i _ Unrun c.loop-mark-test.true ∙ get_or-take used ks i Unrun low) ∙ ap (λ k. grade_of (get_or ks k Unrun)) back)
+    c.max-most.ensures
 
 pub returns : goal.returns
 returns c =
     let ks = c.args.marks.now in
-    let done : c.loop-i.i ≡ c.min-used.result = omega arith in
-    c.loop-i.invariant ∙ ap (greatest (λ i. (mark ks i).grade)) done
-    ∙ greatest_used (λ i. (mark ks i).grade) c.min-used.result c.args.count (omega (arith, c.min-used.ensures))
-    (λ i past within. ap (λ m. m.grade) (get_or_past ks (i - 1) unrun (omega (arith, c.min-used.ensures))))
+    let used = c.min.result in
+    let done : c.loop-mark.mark-index ≡ used = omega (arith, length-take used ks, c.min.ensures) in
+    c.loop-mark.invariant ∙ ap (greatest (λ i. grade_of (mark ks i))) done
+    ∙ greatest_used (λ i. grade_of (mark ks i)) used c.args.count (omega (arith, c.min.ensures))
+    (λ i past within. ap grade_of (get_or_past ks (i - 1) Unrun (omega (arith, c.min.ensures))))

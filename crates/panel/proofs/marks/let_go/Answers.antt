@@ -4,8 +4,8 @@ use Rattle.std.proofs.lemmas.List.Edits.{map_over_more}
 use Rattle.panel.specs.Calls.{let_go}
 use Rattle.panel.proofs.marks.let_go.Goals as goal
 
-pub loop-i-preserved : goal.loop-i-preserved
-loop-i-preserved c = search (rules, map_over_more let_go)
+pub loop-mark-preserved : goal.loop-mark-preserved
+loop-mark-preserved c = search (rules, map_over_more let_go)
 
 pub returns : goal.returns
 returns c = search (rules, take_all, drop_all, append-nil)

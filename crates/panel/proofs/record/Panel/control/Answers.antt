@@ -7,7 +7,7 @@ use Rattle.panel.proofs.record.Panel.control.Goals as goal
 
 pub index_of-k-requires : goal.index_of-k-requires
 index_of-k-requires g c =
-    let within = index_within c.args.self.now.rows c.args.self.now.columns c.args.row c.args.column c.requires.1.0 c.requires.1.1 in
+    let within = index_within c.args.self.now.size.rows c.args.self.now.size.columns c.args.row c.args.column c.requires.1.0 c.requires.1.1 in
     record { row_counted = c.requires.1.0.0; column_counted = c.requires.1.1.0; inside = omega (arith, c.requires.0) }
 
 pub returns : goal.returns

@@ -10,8 +10,8 @@ use Rattle.panel.proofs.record.Panel.reading.Goals as goal
 
 pub bounds-controls-0 : goal.bounds-controls-0
 bounds-controls-0 g c =
-    let r : 1 ≤ c.args.self.now.rows = omega (arith, c.requires.1) in
-    let s : 1 ≤ c.args.self.now.columns = omega (arith, c.requires.1) in
+    let r : 1 ≤ c.args.self.now.size.rows = omega (arith, c.requires.1) in
+    let s : 1 ≤ c.args.self.now.size.columns = omega (arith, c.requires.1) in
     omega (arith, c.requires.0, mul-le-mul r s)
 
 pub loop-k-init : goal.loop-k-init
