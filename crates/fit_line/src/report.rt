@@ -75,7 +75,7 @@ fn show_numbers(rt: &HostRuntime, name: &str, numbers: &[i64]) -> io::Result<()>
 }
 
 fn show_answer(rt: &HostRuntime, line: &[i64], answer: &[i64]) -> io::Result<()> {
-    let grade = <Elimination as LineSolver>::graded();
+    let grade = Elimination::GRADE;
     show_numbers(rt, "  answer", answer)?;
     print!(rt; "  residuals:")?;
     for place in 1..line.len() + 1 {

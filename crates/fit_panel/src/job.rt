@@ -151,7 +151,7 @@ fn show_job<K: Sample>(
     show_reading(rt, 32, 32, &panel.read(controls, 32, 32))?;
     let early = panel.second_line(halves, controls, 1, &Elimination);
     show_answer(rt, "    second line 1", early)?;
-    let grade = <Elimination as LineSolver>::graded();
+    let grade = Elimination::GRADE;
     print!(rt; "  fit by elimination, grade {grade}")?;
     let fitted = panel.fit(samples, halves, controls, &Elimination, &Elimination);
     show_answer(rt, "", fitted)?;

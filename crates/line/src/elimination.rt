@@ -3,7 +3,7 @@
 //     g 1 = k 1 w 1,  g j = (k j - g (j - 1)) w j,
 //     x n = g n,  x j = g j - w j x (j + 1),
 // in finer units, 65,536 to one, each x rounded to the nearest whole number at the end.
-ghost use Rattle.std.specs.Prelude.{◌≡◌, ◌*◌, ◌≤◌, List, length, ℤ, pos, ◌-ℤ◌, ◌*ℤ◌, Ok, unsigned_abs};
+ghost use Rattle.std.specs.Prelude.{◌≡◌, ◌*◌, ◌≤◌, List, length, ℤ, pos, ◌-ℤ◌, ◌*ℤ◌, Ok, unsigned_abs, refl};
 ghost use Rattle.line.specs.Line.{Within};
 ghost use Rattle.line.specs.Solver.{Admitted, WholeSolution, limit};
 ghost use Rattle.line.specs.Solve.{solve_answer, solve_after};
@@ -83,13 +83,13 @@ pub struct Elimination;
 impl LineSolver for Elimination {
     const GRADE: u8 = 3;
 
+    ghost GRADE = { 3 };
+
     ghost meaning = { elimination };
 
     ghost sound = { Eliminated.sound };
 
-    fn graded() -> u8 {
-        Self::GRADE
-    }
+    ghost graded = { refl };
 
     fn solve(&self, line: &[i64], out: &mut [i64]) -> Result<(), SolveFault>
         ensures answer { result ≡ solve_answer line.now (length out.old) }

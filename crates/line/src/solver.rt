@@ -1,5 +1,5 @@
 // What a line solver is, which lines every solver refuses, and the numbers of the refusals.
-ghost use Rattle.std.specs.Prelude.{◌≡◌, length, nat_le, unsigned_abs};
+ghost use Rattle.std.specs.Prelude.{◌≡◌, ℕ, length, nat_le, unsigned_abs};
 ghost use Rattle.line.specs.Solver.{Solver, Sound, limit};
 ghost use Rattle.line.specs.Solve.{fault_number, solve_answer, solve_after, first_beyond};
 
@@ -36,15 +36,13 @@ impl SolveFault {
 
 // A line solver: a fixed rule from lines to lines, with residuals between -GRADE and GRADE.
 pub trait LineSolver {
-    // The grade. Each `graded` answers it, and that it is 1 to 12 is said of `meaning`.
+    // The grade, and its name in clauses and laws. That it is 1 to 12 is said of `meaning`.
     const GRADE: u8;
+
+    ghost GRADE: { ℕ };
 
     // The rule and the grade.
     ghost meaning: { Solver };
-
-    // The grade.
-    fn graded() -> u8
-        ensures { result ≡ meaning.grade };
 
     // Writes the rule's line into the output line, or refuses the line and writes nothing.
     fn solve(&self, line: &[i64], out: &mut [i64]) -> Result<(), SolveFault>
@@ -52,6 +50,8 @@ pub trait LineSolver {
         ensures after { out.new ≡ solve_after meaning line.now out.old };
 
     ghost sound: { Sound meaning };
+
+    ghost graded: { meaning.grade ≡ GRADE };
 }
 
 // The checks that every solver makes, in their order; `room` is the length of the output line.

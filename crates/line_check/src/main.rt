@@ -5,6 +5,7 @@ mod lines;
 mod random;
 mod tally;
 
+use line::elimination::Elimination;
 use line::solver::LineSolver;
 use random::Random;
 use std::io;
@@ -26,7 +27,7 @@ fn show_worst(rt: &impl Print, name: &str, tally: &Tally) -> io::Result<()> {
 }
 
 fn main(rt: HostRuntime) -> io::Result<()> {
-    let grade = <line::elimination::Elimination as LineSolver>::graded();
+    let grade = Elimination::GRADE;
     println!(rt; "elimination, grade {grade}, lines of 2 to 64 numbers up to 5000000 either way")?;
     show_worst(&rt, "constant", &lines::constant())?;
     show_worst(&rt, "alternating", &lines::alternating())?;

@@ -51,7 +51,7 @@ impl Tally {
 
     fn note(&mut self, size: u64) {
         self.worst = self.worst.max(size);
-        if size > <Elimination as LineSolver>::graded() as u64 {
+        if size > u64::from(Elimination::GRADE) {
             self.missed = self.missed.saturating_add(1);
         }
     }

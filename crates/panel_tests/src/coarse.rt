@@ -1,6 +1,6 @@
 // A second solver, so that lines of one panel can be run by solvers of two grades.
 ghost use Rattle.panel_tests.specs.Coarse.{coarse};
-ghost use Rattle.std.proofs.Common.{arith};
+ghost use Rattle.std.proofs.Common.{arith, refl};
 ghost use Rattle.line.specs.Eliminated;
 
 use line::elimination::Elimination;
@@ -13,6 +13,8 @@ pub struct Coarse;
 impl LineSolver for Coarse {
     const GRADE: u8 = 7;
 
+    ghost GRADE = { 7 };
+
     ghost meaning = { coarse };
 
     ghost sound = { record {
@@ -21,9 +23,7 @@ impl LineSolver for Coarse {
       near = λ k admitted j on. Prim.omega (arith, (Eliminated.sound).near k admitted j on);
     } };
 
-    fn graded() -> u8 {
-        Self::GRADE
-    }
+    ghost graded = { refl };
 
     fn solve(&self, line: &[i64], out: &mut [i64]) -> Result<(), SolveFault> {
         Elimination.solve(line, out)
