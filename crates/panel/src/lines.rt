@@ -112,7 +112,7 @@ impl Panel {
         let mut fitted = [0i64; 256];
         let solved = solve_parts(samples, lane, 16, number, solver, &mut fitted);
         store_solved(solved, halves, lane, &fitted)?;
-        self.first_ran(number, S::graded());
+        self.first_ran(number, S::GRADE);
         Ok(())
     }
 
@@ -136,7 +136,7 @@ impl Panel {
         let mut fitted = [0i64; 256];
         let solved = solve_parts(halves, lane, 1, number, solver, &mut fitted);
         store_solved(solved, controls, lane, &fitted)?;
-        self.second_ran(number, S::graded());
+        self.second_ran(number, S::GRADE);
         Ok(())
     }
 

@@ -78,7 +78,7 @@ returns g c =
     let h = c.solve_parts-solved.ensures.filled (sym c.in_ok-store_solved.ensures.answer) in
     record {
       answer = sym done;
-      panel = rw (done, ← c.graded.ensures) (rw line at c.second_ran.ensures);
+      panel = rw (done, g.met.S.LineSolver.graded, ← c.GRADE.ensures) (rw line at c.second_ran.ensures);
       after = rw done (c.in_ok-store_solved.ensures.after ∙ second_stored g.K.Sample.PARTS p (map f c.args.halves.now) (nat_abs c.args.line) (nat_abs c.args.line) _ refl g.S.LineSolver.meaning (map f c.args.controls.now) c.solve_parts-solved.new.fitted
           (length-map c.args.controls.now f ∙ n.long_ys) lane n.on h.1);
       same = λ no. absurd (false≢true no);
