@@ -1,9 +1,7 @@
 -- Steps of the code that walks a lane.
-use Rattle.std.proofs.Common.{◌≡◌, ℕ, zero, suc, ◌+◌, ◌-◌, ◌*◌, ◌<◌, ◌≤◌, List, ◌++◌, length, get_or, take, drop, set, ℤ, pos, ◌*ℤ◌, nat_abs, Ok, Err, refl, ap, ◌∙◌, mul-le-mul, add-one, arith, w32, w64, SFits, to_z, of_z, rules}
-use borrow.Rule.Slice.PartMut.{put_mid, post_of}
+use Rattle.std.proofs.Common.{◌≡◌, ℕ, zero, suc, ◌+◌, ◌-◌, ◌*◌, ◌<◌, ◌≤◌, List, length, get_or, set, ℤ, pos, ◌*ℤ◌, nat_abs, Ok, Err, refl, ap, ◌∙◌, mul-le-mul, add-one, arith, w32, w64, SFits, to_z, of_z, rules}
 use Rattle.std.proofs.lemmas.Int.{ints, to_z-of_z}
 use Rattle.std.proofs.lemmas.List.Edits.{fill_by_more}
-use Rattle.std.proofs.lemmas.List.{length-take-le, get_or-take, get_or-drop, get_or_append_left, get_or-append_right}
 use Rattle.line.specs.Line.{place}
 use Rattle.line.specs.Solve.{solve_answer}
 use Rattle.line.specs.Products.{abs-*}
@@ -62,26 +60,6 @@ module _ (x : ℤ) (h : nat_abs x ≤ 15000006) where
 
   pub cast_is : to_z w32 (of_z w32 (to_z w64 (of_z w64 x))) ≡ x
   cast_is = rw wide (to_z-of_z w32 x (narrow_fits x h))
-
--- A list with a part of it written anew.
-module _ {X : Type 0} (a k : ℕ) (xs ys : List X) (d : X) (h : a ≤ length xs) where
-  start : length (take a xs) ≡ a
-  start = length-take-le a xs h
-
-  pub put_below : (i : ℕ) → i < a → get_or (put_mid a k xs ys) i d ≡ get_or xs i d
-  put_below i l = get_or_append_left (take a xs) _ d i (omega (arith, start)) ∙ get_or-take a xs i d l
-
-  pub put_at : (e : ℕ) → e < length ys → get_or (put_mid a k xs ys) (a + e) d ≡ get_or ys e d
-  put_at e l =
-      let m : a + e - a ≡ e = omega arith in
-      get_or-append_right (take a xs) _ a (a + e) d start (omega arith) ∙ ap (λ i. get_or (ys ++ post_of a k xs) i d) m ∙ get_or_append_left ys _ d e l
-
-  pub put_above : (i : ℕ) → a + k ≤ i → length ys ≡ k → get_or (put_mid a k xs ys) i d ≡ get_or xs i d
-  put_above i l n =
-      let m : a + (k + (i - a - k)) ≡ i = omega arith in
-      get_or-append_right (take a xs) _ a i d start (omega arith)
-      ∙ get_or-append_right ys _ k (i - a) d n (omega arith)
-      ∙ get_or-drop k (drop a xs) (i - a - k) d ∙ get_or-drop a xs (k + (i - a - k)) d ∙ ap (λ i. get_or xs i d) m
 
 -- The solver takes part after part.
 module _ (line k : ℕ) (lines : ℕ → List ℤ) where

@@ -13,7 +13,7 @@ use Rattle.panel_fault.specs.declared.PanelFault.TheVariants.{GridLength, NoLine
 use Rattle.grid.specs.Grid.{Grid}
 use Rattle.panel.specs.Calls.{Answer, between, sized, all_current, first_lines, second_lines, solver_takes, fine_line, along_second, first_fitted, second_fitted, first_answer, second_answer}
 use Rattle.grid.specs.Checks.{check}
-use Rattle.panel.specs.Lane.{first_lane, second_lane, Inside, laned, stored, Filled}
+use Rattle.panel.specs.Lane.{first_lane, second_lane, Inside, laned, rule_column, stored}
 use Rattle.grid.proofs.Chains.{both_good, held, over, stop}
 use Rattle.panel.proofs.Passed.{between_is}
 use Rattle.panel.proofs.Stored.{first_gridded, second_gridded, first_laned, second_laned, first_inside, second_inside}
@@ -22,12 +22,6 @@ use Rattle.panel.proofs.Stored.{first_gridded, second_gridded, first_laned, seco
 pub then_after : (a b next : Answer) → result_and a (result_and b next) ≡ result_and (result_and a b) next
 then_after (Ok u) b next = refl
 then_after (Err e) b next = refl
-
--- Scratch that holds nothing yet.
-pub zeros : (n q : ℕ) → nat_abs (get_or (replicate n (pos 0)) q (pos 0)) ≤ 15000006
-zeros zero q = omega arith
-zeros (suc n) zero = omega arith
-zeros (suc n) (suc q) = zeros n q
 
 -- The checks before the solver's own.
 abbrev pub asked : Panel → Grid → Grid → ℤ → ℕ → Answer
@@ -92,17 +86,13 @@ module _ (parts : ℕ) (p : Panel) (g : Grid) (i number : ℕ) (l : Lane) (is : 
   second_takes e = ap (λ l. solver_takes number 1 parts (laned 1 g l)) e ∙ ap (λ i. solver_takes i 1 parts (laned 1 g (second_lane p i))) is
       ∙ ap (solver_takes i 1 parts) (fun_ext (λ part. second_laned p g i part p.order))
 
-  module _ (by : Solver) (target : Grid) (fitted : List ℤ) (long : length target ≡ p.size.rows * p.size.columns) where
-    pub first_stored : l ≡ first_lane p number → OnLine (first_lines p) number → Filled parts l.count by.rule (laned 16 g l) fitted → stored parts l fitted l.count target ≡ first_fitted parts p by g target i
-    first_stored e on filled =
-        let e' : l ≡ first_lane p i = e ∙ ap (first_lane p) is in
-        ap (λ l. stored parts l fitted l.count target) e'
-        ∙ first_gridded p parts by.rule (laned 16 g (first_lane p i)) (fine_line p g i) fitted target long i (λ part. first_laned p g i part p.order) p.order
-        (subst (OnLine (first_lines p)) is on) (subst (λ l. Filled parts l.count by.rule (laned 16 g l) fitted) e' filled)
+  module _ (by : Solver) (target : Grid) (long : length target ≡ p.size.rows * p.size.columns) where
+    pub first_stored : l ≡ first_lane p number → OnLine (first_lines p) number → stored l (rule_column parts by.rule (laned 16 g l)) l.count target ≡ first_fitted parts p by g target i
+    first_stored e on =
+        ap (λ l. stored l (rule_column parts by.rule (laned 16 g l)) l.count target) (e ∙ ap (first_lane p) is)
+        ∙ first_gridded parts by.rule (laned 16 g (first_lane p i)) (fine_line p g i) (λ part. first_laned p g i part p.order) p target long i p.order (subst (OnLine (first_lines p)) is on)
 
-    pub second_stored : l ≡ second_lane p number → OnLine (second_lines p) number → Filled parts l.count by.rule (laned 1 g l) fitted → stored parts l fitted l.count target ≡ second_fitted parts p by g target i
-    second_stored e on filled =
-        let e' : l ≡ second_lane p i = e ∙ ap (second_lane p) is in
-        ap (λ l. stored parts l fitted l.count target) e'
-        ∙ second_gridded p parts by.rule (laned 1 g (second_lane p i)) (λ part. along_second p g part i) fitted target long i (λ part. second_laned p g i part p.order) p.order
-        (subst (OnLine (second_lines p)) is on) (subst (λ l. Filled parts l.count by.rule (laned 1 g l) fitted) e' filled)
+    pub second_stored : l ≡ second_lane p number → OnLine (second_lines p) number → stored l (rule_column parts by.rule (laned 1 g l)) l.count target ≡ second_fitted parts p by g target i
+    second_stored e on =
+        ap (λ l. stored l (rule_column parts by.rule (laned 1 g l)) l.count target) (e ∙ ap (second_lane p) is)
+        ∙ second_gridded parts by.rule (laned 1 g (second_lane p i)) (λ part. along_second p g part i) (λ part. second_laned p g i part p.order) p target long i p.order (subst (OnLine (second_lines p)) is on)

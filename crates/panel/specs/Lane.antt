@@ -33,19 +33,24 @@ Inside l n = (e : ℕ) → e < l.count → on_lane l e < n
 abbrev pub laned : ℕ → Grid → Lane → ℕ → List ℤ
 laned scale g l part = map (λ e. pos scale *ℤ part_of (slice_index_or g (on_lane l e) []) part) (range_with_len 0 l.count)
 
--- Solved lines lie one after another, 64 numbers for each part: the parts at entry e.
-abbrev pub column : ℕ → List ℤ → ℕ → List ℤ
-column parts fitted e = map (λ q. slice_index_or fitted (q * 64 + e) (pos 0)) (range_with_len 0 parts)
+-- The lines of all parts as they were solved: the parts at entry e.
+abbrev pub column : ℕ → List (List ℤ) → ℕ → List ℤ
+column parts solved e = map (λ q. slice_index_or (slice_index_or solved q []) e (pos 0)) (range_with_len 0 parts)
+
+-- The same where a rule solved them.
+abbrev pub rule_column : ℕ → (List ℤ → List ℤ) → (ℕ → List ℤ) → ℕ → List ℤ
+rule_column parts rule lines e = map (λ q. slice_index_or (rule (lines (q + 1))) e (pos 0)) (range_with_len 0 parts)
+
+-- The first n numbers of each part's line are the rule's.
+abbrev pub Filled : ℕ → ℕ → (List ℤ → List ℤ) → (ℕ → List ℤ) → List (List ℤ) → Type 0
+Filled parts n rule lines solved =
+    (q e : ℕ) → q < parts → e < n → slice_index_or (slice_index_or solved q []) e (pos 0) ≡ slice_index_or (rule (lines (q + 1))) e (pos 0)
 
 -- Numbers that a solver may answer fit a part.
-abbrev pub Narrow : List ℤ → Type 0
-Narrow fitted = (q : ℕ) → unsigned_abs (slice_index_or fitted q (pos 0)) ≤ 15000006
+abbrev pub Narrow : List (List ℤ) → Type 0
+Narrow solved = (q e : ℕ) → unsigned_abs (slice_index_or (slice_index_or solved q []) e (pos 0)) ≤ 15000006
 
--- A grid with the first n entries of a lane replaced.
-abbrev pub stored : ℕ → Lane → List ℤ → ℕ → Grid → Grid
-stored parts l fitted zero g = g
-stored parts l fitted (suc n) g = slice_set (stored parts l fitted n g) (on_lane l n) (column parts fitted n)
-
--- The numbers of each part are the rule's on that part's line.
-abbrev pub Filled : ℕ → ℕ → (List ℤ → List ℤ) → (ℕ → List ℤ) → List ℤ → Type 0
-Filled parts n rule lines fitted = (q e : ℕ) → q < parts → e < n → slice_index_or fitted (q * 64 + e) (pos 0) ≡ slice_index_or (rule (lines (q + 1))) e (pos 0)
+-- A grid with the first n entries of a lane replaced by samples.
+abbrev pub stored : Lane → (ℕ → List ℤ) → ℕ → Grid → Grid
+stored l samples zero g = g
+stored l samples (suc n) g = slice_set (stored l samples n g) (on_lane l n) (samples n)

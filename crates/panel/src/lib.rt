@@ -10,3 +10,4 @@ mod marks;
 mod probe;
 mod read;
 pub mod record;
+mod source;

@@ -9,9 +9,10 @@ ghost use Rattle.panel.specs.Runs.{Reached, History, recorded, first_refusals, s
 ghost use Rattle.panel.specs.Runs.Event.{first_ran, second_ran};
 
 use crate::checks::{check, is_between};
-use crate::lane::{Lane, solve_parts, store_solved};
+use crate::lane::Lane;
 use crate::marks::{all_current, let_go, run_at};
 use crate::record::Panel;
+use crate::source::{Source, fit_line};
 use grid::sample::Sample;
 use line::solver::LineSolver;
 use panel_fault::PanelFault;
@@ -109,9 +110,12 @@ impl Panel {
         self.may_run(samples, halves, line, self.first_lines())?;
         let number = line as usize;
         let lane = self.first_lane(number);
-        let mut fitted = [0i64; 256];
-        let solved = solve_parts(samples, lane, 16, number, solver, &mut fitted);
-        store_solved(solved, halves, lane, &fitted)?;
+        let source = Source {
+            grid: samples,
+            lane,
+            scale: 16,
+        };
+        fit_line(&source, halves, number, solver)?;
         self.first_ran(number, S::GRADE);
         Ok(())
     }
@@ -133,9 +137,12 @@ impl Panel {
         check(self.first_lines_are_current(), PanelFault::FirstStale)?;
         let number = line as usize;
         let lane = self.second_lane(number);
-        let mut fitted = [0i64; 256];
-        let solved = solve_parts(halves, lane, 1, number, solver, &mut fitted);
-        store_solved(solved, controls, lane, &fitted)?;
+        let source = Source {
+            grid: halves,
+            lane,
+            scale: 1,
+        };
+        fit_line(&source, controls, number, solver)?;
         self.second_ran(number, S::GRADE);
         Ok(())
     }

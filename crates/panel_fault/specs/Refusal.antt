@@ -23,6 +23,6 @@ abbrev pub as_fault : SolverRefusal → PanelFault
 as_fault e = Solver e.line e.part e.fault
 
 -- An answer that may carry it.
-abbrev pub as_answer : Result (Unit {0}) SolverRefusal → Result (Unit {0}) PanelFault
+abbrev pub as_answer : {A : Type 0} → Result A SolverRefusal → Result (Unit {0}) PanelFault
 as_answer (Ok _) = Ok tt
 as_answer (Err e) = Err (as_fault e)

@@ -3,9 +3,8 @@ use Rattle.std.proofs.lemmas.List.{length-map}
 use Rattle.std.proofs.lemmas.Int.{to_z-of_z}
 use Rattle.std.proofs.lemmas.Bool.{false≢true}
 use Rattle.grid.proofs.Chains.{exit}
-use Rattle.panel_fault.specs.Refusal.{as_answer}
 use Rattle.panel.specs.Calls.{first_lines, first_answer}
-use Rattle.panel.proofs.LineCalls.{zeros, numbered, first_past, first_out, first_within, first_takes, first_stored}
+use Rattle.panel.proofs.LineCalls.{numbered, first_past, first_out, first_within, first_takes, first_stored}
 use Rattle.panel.proofs.record.Panel.run_first.Goals as goal
 
 pub returns-in_err-may_run : goal.returns-in_err-may_run
@@ -17,18 +16,28 @@ returns-in_err-may_run g c =
     let out = first_out g.K.Sample.PARTS p (map f c.args.samples.now) (map f c.args.halves.now) c.args.line _ (sym refused) in
     record { answer = exit _ c.from_residual.ensures.1 ∙ sym out; panel = rw out refl; after = rw out refl; same = λ _. refl }
 
-pub solve_parts-solved-requires : goal.solve_parts-solved-requires
-solve_parts-solved-requires g c =
+pub invariant_of-source : goal.invariant_of-source
+invariant_of-source g c =
     let f = g.K.Sample.parts in
     let p = c.args.self.now in
     let line = to_z-of_z w32 c.args.line c.ranges.line in
     let ok = rw (line, c.first_lines.ensures.value) at c.in_ok-may_run.ensures in
     let n = numbered f p c.args.samples.now c.args.halves.now c.args.line (first_lines p) (sym ok) in
     let lane = rw line at c.first_lane-lane.ensures in
-    (first_within p (nat_abs c.args.line) _ _ n.long_xs lane n.on, (omega arith, (refl, zeros 256)))
+    record { inside = first_within p (nat_abs c.args.line) _ _ n.long_xs lane n.on; low = omega arith }
 
-pub returns-in_err-store_solved : goal.returns-in_err-store_solved
-returns-in_err-store_solved g c =
+pub fit_line-requires : goal.fit_line-requires
+fit_line-requires g c =
+    let f = g.K.Sample.parts in
+    let p = c.args.self.now in
+    let line = to_z-of_z w32 c.args.line c.ranges.line in
+    let ok = rw (line, c.first_lines.ensures.value) at c.in_ok-may_run.ensures in
+    let n = numbered f p c.args.samples.now c.args.halves.now c.args.line (first_lines p) (sym ok) in
+    let lane = rw line at c.first_lane-lane.ensures in
+    first_within p (nat_abs c.args.line) _ _ n.long_ys lane n.on
+
+pub returns-in_err-fit_line : goal.returns-in_err-fit_line
+returns-in_err-fit_line g c =
     let f = g.K.Sample.parts in
     let p = c.args.self.now in
     let line = to_z-of_z w32 c.args.line c.ranges.line in
@@ -36,20 +45,8 @@ returns-in_err-store_solved g c =
     let n = numbered f p c.args.samples.now c.args.halves.now c.args.line (first_lines p) (sym ok) in
     let lane = rw line at c.first_lane-lane.ensures in
     let no : first_answer g.K.Sample.PARTS p (map f c.args.samples.now) (map f c.args.halves.now) c.args.line ≡ Err _ =
-    first_past g.K.Sample.PARTS p (map f c.args.samples.now) (map f c.args.halves.now) c.args.line (sym ok) ∙ sym (ap as_answer c.in_err-store_solved.ensures.answer ∙ rw line at c.solve_parts-solved.ensures.answer ∙ first_takes g.K.Sample.PARTS p (map f c.args.samples.now) (nat_abs c.args.line) (nat_abs c.args.line) _ refl lane) in
-    record { answer = exit _ c.from_residual-in_err-store_solved.ensures.1 ∙ sym no; panel = rw no refl; after = rw no c.in_err-store_solved.ensures.after; same = λ _. c.in_err-store_solved.ensures.same refl }
-
-pub store_solved-requires : goal.store_solved-requires
-store_solved-requires g c =
-    let f = g.K.Sample.parts in
-    let p = c.args.self.now in
-    let line = to_z-of_z w32 c.args.line c.ranges.line in
-    let ok = rw (line, c.first_lines.ensures.value) at c.in_ok-may_run.ensures in
-    let n = numbered f p c.args.samples.now c.args.halves.now c.args.line (first_lines p) (sym ok) in
-    let lane = rw line at c.first_lane-lane.ensures in (
-      first_within p (nat_abs c.args.line) _ _ n.long_ys lane n.on,
-      (omega (arith, c.solve_parts-solved.auto.fitted), λ solved. let h = c.solve_parts-solved.ensures.filled solved in (h.0, h.2)),
-    )
+    first_past g.K.Sample.PARTS p (map f c.args.samples.now) (map f c.args.halves.now) c.args.line (sym ok) ∙ sym (rw line at c.in_err-fit_line.ensures.answer ∙ first_takes g.K.Sample.PARTS p (map f c.args.samples.now) (nat_abs c.args.line) (nat_abs c.args.line) _ refl lane) in
+    record { answer = exit _ c.from_residual-in_err-fit_line.ensures.1 ∙ sym no; panel = rw no refl; after = rw no c.in_err-fit_line.ensures.after; same = λ _. c.in_err-fit_line.ensures.same refl }
 
 pub returns : goal.returns
 returns g c =
@@ -60,12 +57,11 @@ returns g c =
     let n = numbered f p c.args.samples.now c.args.halves.now c.args.line (first_lines p) (sym ok) in
     let lane = rw line at c.first_lane-lane.ensures in
     let done : first_answer g.K.Sample.PARTS p (map f c.args.samples.now) (map f c.args.halves.now) c.args.line ≡ Ok tt =
-    first_past g.K.Sample.PARTS p (map f c.args.samples.now) (map f c.args.halves.now) c.args.line (sym ok) ∙ sym (ap as_answer c.in_ok-store_solved.ensures.answer ∙ rw line at c.solve_parts-solved.ensures.answer ∙ first_takes g.K.Sample.PARTS p (map f c.args.samples.now) (nat_abs c.args.line) (nat_abs c.args.line) _ refl lane) in
-    let h = c.solve_parts-solved.ensures.filled (sym c.in_ok-store_solved.ensures.answer) in
+    first_past g.K.Sample.PARTS p (map f c.args.samples.now) (map f c.args.halves.now) c.args.line (sym ok) ∙ sym (rw line at c.in_ok-fit_line.ensures.answer ∙ first_takes g.K.Sample.PARTS p (map f c.args.samples.now) (nat_abs c.args.line) (nat_abs c.args.line) _ refl lane) in
     record {
       answer = sym done;
       panel = rw (done, g.met.S.LineSolver.graded, ← c.GRADE.ensures) (rw line at c.first_ran.ensures);
-      after = rw done (c.in_ok-store_solved.ensures.after ∙ first_stored g.K.Sample.PARTS p (map f c.args.samples.now) (nat_abs c.args.line) (nat_abs c.args.line) _ refl g.S.LineSolver.meaning (map f c.args.halves.now) c.solve_parts-solved.new.fitted
-          (length-map c.args.halves.now f ∙ n.long_ys) lane n.on h.1);
+      after = rw done (c.in_ok-fit_line.ensures.after ∙ first_stored g.K.Sample.PARTS p (map f c.args.samples.now) (nat_abs c.args.line) (nat_abs c.args.line) _ refl g.S.LineSolver.meaning (map f c.args.halves.now)
+          (length-map c.args.halves.now f ∙ n.long_ys) lane n.on);
       same = λ no. absurd (false≢true no);
     }

@@ -1,0 +1,77 @@
+use Rattle.std.proofs.Common.{◌≡◌, ℕ, ◌+◌, ◌-◌, ◌<◌, [], ◌++◌, map, length, get_or, drop, replicate, pos, sym, refl, ap, ◌∙◌, subst, arith, rules, Ok}
+use Rattle.std.proofs.lemmas.List.{get_or-drop, get_or_append_left, length-take}
+use Rattle.std.proofs.lemmas.List.FromFn.{length-map-range_with_len}
+use Rattle.grid.proofs.Chains.{exit}
+use Rattle.line.specs.Solve.{solve_answer}
+use Rattle.panel_fault.specs.Refusal.{as_answer}
+use Rattle.panel.specs.Calls.{solver_took, solver_takes}
+use Rattle.panel.specs.Lane.{laned}
+use Rattle.panel.proofs.Passed.{took}
+use Rattle.panel.proofs.Lanes.{takes_on, takes_out}
+use Rattle.panel.proofs.Fitted.{long_line, fills, stays_narrow, narrow_take, narrow_append, narrow_drop, narrow_zeros}
+use Rattle.panel.proofs.source.Source.solve.Goals as goal
+
+pub returns-then-n-gt64-clause-answer : goal.returns-then-n-gt64-clause-answer
+returns-then-n-gt64-clause-answer g c =
+    let lines = laned c.args.self.now.scale (map g.K.Sample.parts c.args.self.now.grid.now) c.args.self.now.lane in
+    let n : length (lines 1) ≡ c.args.self.now.lane.count = length-map-range_with_len _ 0 c.args.self.now.lane.count in
+    let e = long_line (lines 1) (omega arith) in
+    sym (takes_out c.args.number 1 lines g.K.Sample.PARTS (omega (arith, g.met.K.Sample.counted.0)) (rw e refl))
+
+pub loop-q-init : goal.loop-q-init
+loop-q-init g c =
+    let m : g.K.Sample.PARTS - 0 ≡ g.K.Sample.PARTS = omega arith in record {
+      answer = ap (λ n. solver_takes c.args.number 1 n (laned c.args.self.now.scale (map g.K.Sample.parts c.args.self.now.grid.now) c.args.self.now.lane)) m;
+      filled = λ q e h l. absurd (omega arith);
+      narrow = narrow_take c.PARTS.result _ narrow_zeros;
+    }
+
+pub loop-q-preserved : goal.loop-q-preserved
+loop-q-preserved g c =
+    let lines = laned c.args.self.now.scale (map g.K.Sample.parts c.args.self.now.grid.now) c.args.self.now.lane in
+    let q = c.loop-q.q in
+    let n = c.args.self.now.lane.count in
+    let rows = c.loop-q.line-items in
+    let low : q < length rows = omega arith in
+    let few : q < g.K.Sample.PARTS = omega (arith, c.loop-q.auto.line-items, length-take c.PARTS.result (replicate 4 (replicate 64 (pos 0))), c.PARTS.ensures) in
+    let all : (k : ℕ) → length (lines k) ≡ n = λ k. length-map-range_with_len _ 0 n in
+    let past = drop n (get_or rows q []) in
+    let next : c.solve_part.new.out ≡ g.S.LineSolver.meaning.rule (lines (q + 1)) ++ past = rw (c.in_ok-solve_part.was) at c.solve_part.ensures.after in
+    let taken : solve_answer (lines (q + 1)) n ≡ Ok tt = took c.args.number (q + 1) _ (sym (rw (c.in_ok-solve_part.was) at c.solve_part.ensures.answer)) in
+    let m : g.K.Sample.PARTS - (q + 1) ≡ g.K.Sample.PARTS - q - 1 = omega arith in
+    record {
+      answer = rw m (sym (takes_on c.args.number (q + 1) lines (g.K.Sample.PARTS - q) (omega arith)
+          (sym (ap (solver_took c.args.number (q + 1)) (ap (solve_answer (lines (q + 1))) (all (q + 1)) ∙ taken))))
+          ∙ c.loop-q.invariant.answer);
+      filled = rw next (fills q n lines g.S.LineSolver.meaning g.met.S.LineSolver.sound rows low all past c.loop-q.invariant.filled);
+      narrow = rw next (stays_narrow q n lines g.S.LineSolver.meaning g.met.S.LineSolver.sound rows low all past taken
+          (λ e. rw (get_or-drop n (get_or rows q []) e (pos 0)) (c.loop-q.invariant.narrow q (n + e))) c.loop-q.invariant.narrow);
+    }
+
+pub returns-in_err-solve_part-clause-answer : goal.returns-in_err-solve_part-clause-answer
+returns-in_err-solve_part-clause-answer g c =
+    let lines = laned c.args.self.now.scale (map g.K.Sample.parts c.args.self.now.grid.now) c.args.self.now.lane in
+    let q = c.loop-q.q in
+    let n = c.args.self.now.lane.count in
+    let few : q < g.K.Sample.PARTS = omega (arith, c.loop-q.auto.line-items, length-take c.PARTS.result (replicate 4 (replicate 64 (pos 0))), c.PARTS.ensures) in
+    let all : length (lines (q + 1)) ≡ n = length-map-range_with_len _ 0 n in
+    let refused = rw (c.in_err-solve_part.was) at c.solve_part.ensures.answer in
+    ap as_answer (exit _ c.from_residual.ensures.1)
+    ∙ sym (takes_out c.args.number (q + 1) lines (g.K.Sample.PARTS - q) (omega arith) (refused ∙ ap (λ m. solver_took c.args.number (q + 1) (solve_answer (lines (q + 1)) m)) (sym all)))
+    ∙ c.loop-q.invariant.answer
+
+pub invariant_of-result : goal.invariant_of-result
+invariant_of-result g c = record { narrow = narrow_append c.loop-q.line-items _ c.loop-q.invariant.narrow (narrow_drop c.PARTS.result _ narrow_zeros) }
+
+pub returns-clause-answer : goal.returns-clause-answer
+returns-clause-answer g c =
+    let lines = laned c.args.self.now.scale (map g.K.Sample.parts c.args.self.now.grid.now) c.args.self.now.lane in
+    let rows : length c.loop-q.line-items ≡ g.K.Sample.PARTS = omega (arith, c.loop-q.auto.line-items, length-take c.PARTS.result (replicate 4 (replicate 64 (pos 0))), c.PARTS.ensures, g.met.K.Sample.counted.1) in
+    let m : g.K.Sample.PARTS - c.loop-q.q ≡ 0 = omega arith in
+    sym (ap (λ n. solver_takes c.args.number (c.loop-q.q + 1) n lines) m) ∙ c.loop-q.invariant.answer
+
+pub returns-clause-filled : goal.returns-clause-filled
+returns-clause-filled g c =
+    let rows : length c.loop-q.line-items ≡ g.K.Sample.PARTS = omega (arith, c.loop-q.auto.line-items, length-take c.PARTS.result (replicate 4 (replicate 64 (pos 0))), c.PARTS.ensures, g.met.K.Sample.counted.1) in
+    (omega arith, λ q e h l.
+    ap (λ v. get_or v e (pos 0)) (get_or_append_left c.loop-q.line-items _ [] q (omega arith)) ∙ c.loop-q.invariant.filled q e (omega arith) l)
