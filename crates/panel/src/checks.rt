@@ -18,14 +18,14 @@ pub(crate) fn check(holds: bool, fault: PanelFault) -> Result<(), PanelFault>
 pub(crate) fn is_between(v: i32, low: usize, high: usize) -> bool
     ensures { result ≡ between v low high }
 {
-    v >= 0 && v as usize >= low && v as usize <= high
+    usize::try_from(v).is_ok_and(|v| (low..=high).contains(&v))
 }
 
 // Whether a part lies within 100,000 either way.
 fn is_within(v: i32) -> bool
     ensures { result ≡ nat_le (unsigned_abs v) part_limit }
 {
-    -100_000 <= v && v <= 100_000
+    (-100_000..=100_000).contains(&v)
 }
 
 // Refuses the first part of a sample that lies beyond 100,000 either way.
@@ -36,14 +36,9 @@ pub(crate) fn parts_within<K: Sample>(
 ) -> Result<(), PanelFault>
     ensures { result ≡ parts_within row column 1 (K.Sample.parts sample.now) }
 {
-    for k in 0..K::PARTS {
-        let within = is_within(sample.part(k + 1));
-        if !within {
-            return Err(PanelFault::PartBeyond {
-                row,
-                column,
-                part: k + 1,
-            });
+    for part in 1..=K::PARTS {
+        if !is_within(sample.part(part)) {
+            return Err(PanelFault::PartBeyond { row, column, part });
         }
     }
     Ok(())
@@ -54,8 +49,8 @@ pub(crate) fn grid_within<K: Sample>(samples: &[K], columns: usize) -> Result<()
     requires { 0 < columns }
     ensures { result ≡ grid_within columns 0 (map K.Sample.parts samples.now) }
 {
-    for k in 0..samples.len() {
-        parts_within(k / columns + 1, k % columns + 1, &samples[k])?;
+    for (k, sample) in samples.iter().enumerate() {
+        parts_within(k / columns + 1, k % columns + 1, sample)?;
     }
     Ok(())
 }
