@@ -11,3 +11,4 @@ mod probe;
 mod read;
 pub mod record;
 mod source;
+mod view;

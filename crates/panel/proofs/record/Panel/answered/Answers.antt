@@ -13,14 +13,14 @@ returns-in_err-may_read g c =
     let no = given_two (asked p controls) _ c.args.x c.args.y c.ranges.x c.ranges.y c.in_err-may_read.ensures in
     ap (shown g.K.Sample.parts) (exit _ c.from_residual.ensures.1) ∙ sym (read_out p controls c.args.x c.args.y g.K.Sample.PARTS _ no)
 
-pub reading-requires : goal.reading-requires
-reading-requires g c =
+pub invariant_of-view : goal.invariant_of-view
+invariant_of-view g c =
     let p = c.args.self.now in
     let controls = map g.K.Sample.parts c.args.controls.now in
     let ok = c.in_ok-may_read.ensures in
     let x = to_z w32 (of_z w32 c.args.x) in
     let y = to_z w32 (of_z w32 c.args.y) in
-    (sym (length-map c.args.controls.now g.K.Sample.parts) ∙ read_long p controls x y ok, read_area p controls x y ok)
+    record { sized = sym (length-map c.args.controls.now g.K.Sample.parts) ∙ read_long p controls x y ok; in_area = read_area p controls x y ok }
 
 pub returns-in_err-sample : goal.returns-in_err-sample
 returns-in_err-sample g c =

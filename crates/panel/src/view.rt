@@ -1,0 +1,85 @@
+// The control points of a panel as they are read around one place.
+ghost use Rattle.std.specs.Prelude.{◌≡◌, ℕ, ◌*◌, ◌<◌, map, length, if◌then◌else◌, Some, None, Ok, slice_index};
+ghost use Rattle.std.specs.List.{range_with_len};
+ghost use Rattle.std.specs.Result.{result_and};
+ghost use Rattle.grid.specs.Checks.{check as checked};
+ghost use Rattle.grid.specs.Grid.{at};
+ghost use Rattle.line.specs.Line.{OnLine};
+ghost use Rattle.surface.specs.Patch.{within_reach};
+ghost use Rattle.panel.specs.Reading.{InArea, needed_within, around, reading as part_read, sample_shown};
+
+use crate::record::{Panel, index_of};
+use grid::sample::Sample;
+use panel_fault::PanelFault;
+use surface::patch::{lines_around, patch_reading};
+
+// A panel, its control points, and a place of its area in 32nds.
+#[derive(Drop)]
+pub(crate) struct View<'a, K> {
+    pub(crate) panel: &'a Panel,
+    pub(crate) controls: &'a [K],
+    pub(crate) x: usize,
+    pub(crate) y: usize,
+    ghost sized: { length controls.now ≡ panel.now.size.rows * panel.now.size.columns },
+    ghost in_area: { InArea panel.now x y },
+}
+
+impl<K: Sample> View<'_, K> {
+    // One part of the control point at a row and a column.
+    fn control(&self, part: usize, row: usize, column: usize) -> i32
+        requires { (OnLine self.now.panel.now.size.rows row) × (OnLine self.now.panel.now.size.columns column) }
+        ensures { result ≡ at self.now.panel.now.size.columns (map K.Sample.parts self.now.controls.now) part row column }
+    {
+        let columns = usize::from(self.panel.size.columns);
+        let k = index_of(self.controls.len(), columns, row, column);
+        self.controls[k].part(part)
+    }
+
+    // The same along four columns of a row. Written out: as a closure, what is asked of a column would need clauses of its own.
+    fn four_controls(&self, part: usize, row: usize, columns: &[usize; 4]) -> [i32; 4]
+        requires { (OnLine self.now.panel.now.size.rows row) × ((b : ℕ) → b < 4 → OnLine self.now.panel.now.size.columns (slice_index columns.now b)) }
+        ensures { result ≡ map (λ b. at self.now.panel.now.size.columns (map K.Sample.parts self.now.controls.now) part row (slice_index columns.now b)) (range_with_len 0 4) }
+    {
+        [
+            self.control(part, row, columns[0]),
+            self.control(part, row, columns[1]),
+            self.control(part, row, columns[2]),
+            self.control(part, row, columns[3]),
+        ]
+    }
+
+    // One part of the sixteen control points around the place, row by row.
+    fn patch(&self, part: usize) -> [[i32; 4]; 4]
+        ensures { result ≡ map (λ a. map (around self.now.panel.now (map K.Sample.parts self.now.controls.now) part self.now.x self.now.y a) (range_with_len 0 4)) (range_with_len 0 4) }
+    {
+        let rows = lines_around(usize::from(self.panel.size.rows), self.x);
+        let columns = lines_around(usize::from(self.panel.size.columns), self.y);
+        [
+            self.four_controls(part, rows[0], &columns),
+            self.four_controls(part, rows[1], &columns),
+            self.four_controls(part, rows[2], &columns),
+            self.four_controls(part, rows[3], &columns),
+        ]
+    }
+
+    // One part of the reading; none if a control point lies beyond reach.
+    fn part_reading(&self, part: usize) -> Option<i32>
+        ensures { result ≡ (if within_reach (around self.now.panel.now (map K.Sample.parts self.now.controls.now) part self.now.x self.now.y) then Some (part_read self.now.panel.now (map K.Sample.parts self.now.controls.now) self.now.x self.now.y part) else None) }
+    {
+        patch_reading(&self.patch(part), self.x, self.y)
+    }
+
+    // The reading as a sample: any sample of the kind, with each part replaced.
+    pub(crate) fn reading(&self) -> Result<K, PanelFault>
+        ensures { sample_shown K.Sample.parts result ≡ result_and (checked (needed_within K.Sample.PARTS self.now.panel.now (map K.Sample.parts self.now.controls.now) self.now.x self.now.y) PanelFault.ControlBeyond) (Ok (map (part_read self.now.panel.now (map K.Sample.parts self.now.controls.now) self.now.x self.now.y) (range_with_len 1 K.Sample.PARTS))) }
+    {
+        let mut sample = self.controls[0];
+        for k in 0..K::PARTS {
+            let part = self
+                .part_reading(k + 1)
+                .ok_or(PanelFault::ControlBeyond)?;
+            sample = sample.replace_part(k + 1, part);
+        }
+        Ok(sample)
+    }
+}
