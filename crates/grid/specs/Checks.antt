@@ -1,9 +1,9 @@
 -- Checks made in order: the first that fails names the refusal.
-use Rattle.std.specs.Prelude.{Bool, cond, Ok, Err, Result}
+use Rattle.std.specs.Prelude.{Bool, if◌then◌else◌, Ok, Err, Result}
 
 -- One check: a refusal unless it holds.
 abbrev pub check : {E : Type 0} → Bool → E → Result (Unit {0}) E
-check holds refusal = cond holds (Ok tt) (Err refusal)
+check holds refusal = if holds then Ok tt else Err refusal
 
 -- The new value if the answer is good, the old one if it is a refusal.
 abbrev pub if_ok : {A B E : Type 0} → Result A E → B → B → B

@@ -1,5 +1,5 @@
 -- The places of a grid stored row by row; rows and columns count from 1, indices from 0.
-use Rattle.std.specs.Prelude.{ℕ, ◌+◌, ◌-◌, ◌*◌, ◌/◌, ◌%◌, Bool, cond, ◌&&◌, Some, None, Option, nat_le, nat_lt}
+use Rattle.std.specs.Prelude.{ℕ, ◌+◌, ◌-◌, ◌*◌, ◌/◌, ◌%◌, Bool, if◌then◌else◌, ◌&&◌, Some, None, Option, nat_le, nat_lt}
 use Rattle.grid.specs.declared.size.GridSize.{GridSize}
 use Rattle.grid.specs.declared.size.Place.{Place}
 
@@ -13,7 +13,7 @@ on_grid size p = (nat_le 1 p.row && nat_le p.row size.rows) && (nat_le 1 p.colum
 
 -- The index of a place, and none off the grid.
 abbrev pub index_on : GridSize → Place → Option ℕ
-index_on size p = cond (on_grid size p) (Some (index size.columns p.row p.column)) None
+index_on size p = if on_grid size p then Some (index size.columns p.row p.column) else None
 
 -- The place at an index.
 abbrev pub place_at : GridSize → ℕ → Place
@@ -21,4 +21,4 @@ place_at size k = record { row = k / size.columns + 1; column = k % size.columns
 
 -- The same, and none past the last.
 abbrev pub place_on : GridSize → ℕ → Option Place
-place_on size k = cond (nat_lt k (size.rows * size.columns)) (Some (place_at size k)) None
+place_on size k = if nat_lt k (size.rows * size.columns) then Some (place_at size k) else None

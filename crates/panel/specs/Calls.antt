@@ -1,5 +1,5 @@
 -- What make, probe, first line and second line answer, check by check in order, and what they leave in the panel and the grids.
-use Rattle.std.specs.Prelude.{ℕ, zero, suc, ◌+◌, ◌-◌, ◌*◌, ◌/◌, ◌%◌, Bool, true, false, cond, ◌&&◌, List, [], ◌∷◌, map, length, replicate, ℤ, pos, ◌*ℤ◌, Ok, Err, Result, ◌==◌, int_le, nat_le, nat_lt, slice_index_or, slice_set, unsigned_abs}
+use Rattle.std.specs.Prelude.{ℕ, zero, suc, ◌+◌, ◌-◌, ◌*◌, ◌/◌, ◌%◌, Bool, true, false, if◌then◌else◌, ◌&&◌, List, [], ◌∷◌, map, length, replicate, ℤ, pos, ◌*ℤ◌, Ok, Err, Result, ◌==◌, int_le, nat_le, nat_lt, slice_index_or, slice_set, unsigned_abs}
 use Rattle.std.specs.List.{range_with_len}
 use Rattle.std.specs.Result.{result_and}
 use Rattle.grid.specs.Checks.{check, if_ok}
@@ -199,9 +199,9 @@ first_answer parts p samples halves i =
 -- The half points after an accepted call, at one place and all: the solver's rule on that line, part by part.
 abbrev pub first_sample : ℕ → Panel → Solver → Grid → Grid → ℕ → ℕ → ℕ → List ℤ
 first_sample parts p by samples halves i r s =
-    cond (i == first_of p r s)
-    (map (λ part. place (by.rule (fine_line p samples i part)) (second_of p r s)) (range_with_len 1 parts))
-    (sample_at p.size.columns halves r s)
+    if i == first_of p r s
+    then map (λ part. place (by.rule (fine_line p samples i part)) (second_of p r s)) (range_with_len 1 parts)
+    else sample_at p.size.columns halves r s
 
 abbrev pub first_fitted : ℕ → Panel → Solver → Grid → Grid → ℕ → Grid
 first_fitted parts p by samples halves i = gridded p (first_sample parts p by samples halves i)
@@ -237,9 +237,9 @@ second_answer parts p halves controls j =
 -- The control points after an accepted call, at one place and all.
 abbrev pub second_sample : ℕ → Panel → Solver → Grid → Grid → ℕ → ℕ → ℕ → List ℤ
 second_sample parts p by halves controls j r s =
-    cond (j == second_of p r s)
-    (map (λ part. place (by.rule (along_second p halves part j)) (first_of p r s)) (range_with_len 1 parts))
-    (sample_at p.size.columns controls r s)
+    if j == second_of p r s
+    then map (λ part. place (by.rule (along_second p halves part j)) (first_of p r s)) (range_with_len 1 parts)
+    else sample_at p.size.columns controls r s
 
 abbrev pub second_fitted : ℕ → Panel → Solver → Grid → Grid → ℕ → Grid
 second_fitted parts p by halves controls j = gridded p (second_sample parts p by halves controls j)

@@ -1,7 +1,7 @@
 -- Whole runs of calls: what a history of accepted calls says, which states are reached by calls, and what a reading then promises.
 -- A run begins with an accepted make. Calls follow in any order and number, refused ones among them, each from what the one before
 -- left, each line call with a solver of its own. The steps are what the contracts of the calls themselves promise.
-use Rattle.std.specs.Prelude.{◌≡◌, ℕ, ◌+◌, ◌-◌, ◌*◌, ◌<◌, ◌≤◌, Bool, true, false, cond, not, ◌&&◌, ◌||◌, List, [], ◌∷◌, length, ℤ, pos, ◌-ℤ◌, ◌*ℤ◌, IfOk, Ok, Err, Result, MatchResult, ◌==◌, unsigned_abs}
+use Rattle.std.specs.Prelude.{◌≡◌, ℕ, ◌+◌, ◌-◌, ◌*◌, ◌<◌, ◌≤◌, Bool, true, false, if◌then◌else◌, not, ◌&&◌, ◌||◌, List, [], ◌∷◌, length, ℤ, pos, ◌-ℤ◌, ◌*ℤ◌, IfOk, Ok, Err, Result, MatchResult, ◌==◌, unsigned_abs}
 use Rattle.std.specs.List.{AllByRecursion}
 use Rattle.std.specs.Result.{result_and}
 use Rattle.grid.specs.Checks.{check}
@@ -50,7 +50,7 @@ pub data Reached (parts : ℕ) (made : Grid) : State → History → Type 0 wher
 -- The part held at a place: that of the last accepted probe there, or of make.
 abbrev pub held : ℕ → Grid → History → ℕ → ℕ → ℕ → ℤ
 held columns made [] part r s = at columns made part r s
-held columns made (probed r' s' new ∷ h) part r s = cond (r == r' && s == s') (part_of new part) (held columns made h part r s)
+held columns made (probed r' s' new ∷ h) part r s = if r == r' && s == s' then part_of new part else held columns made h part r s
 held columns made (first_ran i by ∷ h) part r s = held columns made h part r s
 held columns made (second_ran j by ∷ h) part r s = held columns made h part r s
 
@@ -72,14 +72,14 @@ ran_since (second_ran j' by ∷ h) j = j' == j || ran_since h j
 abbrev pub first_grade : History → ℕ → ℕ
 first_grade [] i = 0
 first_grade (probed r s new ∷ h) i = first_grade h i
-first_grade (first_ran i' by ∷ h) i = cond (i' == i) by.grade (first_grade h i)
+first_grade (first_ran i' by ∷ h) i = if i' == i then by.grade else first_grade h i
 first_grade (second_ran j by ∷ h) i = first_grade h i
 
 abbrev pub second_grade : History → ℕ → ℕ
 second_grade [] j = 0
 second_grade (probed r s new ∷ h) j = second_grade h j
 second_grade (first_ran i by ∷ h) j = second_grade h j
-second_grade (second_ran j' by ∷ h) j = cond (j' == j) by.grade (second_grade h j)
+second_grade (second_ran j' by ∷ h) j = if j' == j then by.grade else second_grade h j
 
 -- The first grade: the greatest of all first lines. The second grade: the greatest of the second lines that a reading needs.
 abbrev pub first_most : Panel → History → ℕ
