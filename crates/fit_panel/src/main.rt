@@ -1,7 +1,6 @@
 // fit_panel: loads each panel file, makes the panel, fits it, reads it, probes one place again, fits again what is stale, and reads again.
 #![tactic(auto)]
 
-mod fault;
 mod job;
 mod report;
 mod source;

@@ -1,5 +1,4 @@
 // What is shown: a file, a sample, a reading, a refusal.
-use crate::fault::reason;
 use grid::sample::Sample;
 use panel_fault::PanelFault;
 use panel_file::{FileRefusal, PanelFile};
@@ -27,8 +26,8 @@ pub(crate) fn show_file_refusal(rt: &HostRuntime, refusal: FileRefusal) -> io::R
 pub(crate) fn show_sample<K: Sample>(rt: &HostRuntime, sample: &K) -> io::Result<()> {
     let first = sample.part(1);
     print!(rt; "{first}")?;
-    for k in 1..K::PARTS {
-        let part = sample.part(k.wrapping_add(1));
+    for k in 2..=K::PARTS {
+        let part = sample.part(k);
         print!(rt; " {part}")?;
     }
     Ok(())
@@ -54,6 +53,5 @@ pub(crate) fn show_reading<K: Sample>(
 // The number of a refusal, and why.
 pub(crate) fn show_refusal(rt: &HostRuntime, fault: PanelFault) -> io::Result<()> {
     let number = fault.number();
-    let why = reason(fault);
-    println!(rt; "refused {number}: {why}")
+    println!(rt; "refused {number}: {fault}")
 }

@@ -5,6 +5,8 @@ ghost use Rattle.std.specs.Prelude.{◌≡◌};
 ghost use Rattle.panel_fault.specs.Refusal.{fault_number, as_fault};
 
 use line::solver::SolveFault;
+use std::error::Error;
+use std::fmt;
 
 // Why a call was refused. The call then left the panel and all grids as they were.
 #[derive(Clone, Copy, PartialEq, Eq, Debug)]
@@ -62,6 +64,30 @@ impl PanelFault {
     }
 }
 
+impl fmt::Display for PanelFault {
+    fn fmt<W: fmt::Write>(&self, f: &mut fmt::Formatter<W>) -> fmt::Result {
+        f.write_str(match self {
+            PanelFault::Size => "rows and columns are 2 to 64 each",
+            PanelFault::Place => "the place is off the grid",
+            PanelFault::NoLine => "there is no such line",
+            PanelFault::OutsideArea => "the place is outside the area",
+            PanelFault::PartBeyond { .. } => "a part lies beyond 100,000 micrometres either way",
+            PanelFault::TooManyProbes => "60,000 probes were accepted before",
+            PanelFault::FirstStale => "a first line is not current",
+            PanelFault::SecondStale => "a second line that the reading needs is not current",
+            PanelFault::GridLength => "a grid has another length than rows times columns",
+            PanelFault::Solver { fault, .. } => match fault {
+                SolveFault::Length => "the solver takes lines of 2 to 64 numbers",
+                SolveFault::Output => "the solver's output has another length",
+                SolveFault::Beyond(_) => "the solver takes numbers up to 5,000,000 either way",
+            },
+            PanelFault::ControlBeyond => "a control point lies beyond 16,000,000 either way",
+        })
+    }
+}
+
+impl Error for PanelFault {}
+
 // A solver's fault whole, with the line and the part that it refused.
 #[derive(Clone, Copy)]
 pub struct SolverRefusal {
@@ -70,6 +96,7 @@ pub struct SolverRefusal {
     pub fault: SolveFault,
 }
 
+// By hand: `from_gives` says of a `?` which fault it makes.
 impl From<SolverRefusal> for PanelFault {
     ghost from_gives = { λ e r. r ≡ as_fault e };
 

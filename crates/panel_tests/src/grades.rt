@@ -12,10 +12,7 @@ use std::test::Fail;
 
 // The tolerance at a place, and 0 if the reading is refused.
 fn tolerance<const N: usize>(kit: &Kit<Height, N>, x: i32, y: i32) -> u32 {
-    match kit.read(x, y) {
-        Ok((_, tolerance)) => tolerance,
-        Err(_) => 0,
-    }
+    kit.read(x, y).map_or(0, |(_, tolerance)| tolerance)
 }
 
 fn corner(order: Order) -> Result<Kit<Height, 4>, PanelFault> {

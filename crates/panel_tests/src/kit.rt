@@ -131,16 +131,5 @@ impl<K: Sample, const N: usize> Kit<K, N> {
 
 // The number of a refusal, and 0 of an acceptance.
 pub(crate) fn number<A: Drop>(answer: Result<A, PanelFault>) -> u8 {
-    match answer {
-        Ok(_) => 0,
-        Err(fault) => fault.number(),
-    }
-}
-
-// The refusal of an answer.
-pub(crate) fn fault_of<A: Drop>(answer: Result<A, PanelFault>) -> Option<PanelFault> {
-    match answer {
-        Ok(_) => None,
-        Err(fault) => Some(fault),
-    }
+    answer.err().map_or(0, |fault| fault.number())
 }

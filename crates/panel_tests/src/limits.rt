@@ -1,7 +1,7 @@
 // Each limit on both sides: sizes, parts of samples, lines, the area of readings.
 ghost use Rattle.std.specs.Prelude.{◌≤◌, unsigned_abs};
 
-use crate::kit::{Kit, fault_of, number};
+use crate::kit::{Kit, number};
 use grid::kinds::{Height, Point};
 use line::solver::SolveFault;
 use panel::record::{Order, Panel};
@@ -64,7 +64,7 @@ fn making(first: i32, second: i32) -> Option<PanelFault> {
     let mut samples = [Height(0); 6];
     samples[4] = Height(first);
     samples[5] = Height(second);
-    fault_of(Kit::made(2, 3, Order::ColumnsFirst, samples, Height(0)))
+    Kit::made(2, 3, Order::ColumnsFirst, samples, Height(0)).err()
 }
 
 #[test]
@@ -86,7 +86,7 @@ fn making_points(first: Point, second: Point) -> Option<PanelFault> {
     let mut samples = [point(0, 0, 0); 6];
     samples[2] = first;
     samples[3] = second;
-    fault_of(Kit::made(2, 3, Order::RowsFirst, samples, point(0, 0, 0)))
+    Kit::made(2, 3, Order::RowsFirst, samples, point(0, 0, 0)).err()
 }
 
 #[test]
@@ -111,9 +111,9 @@ fn parts_of_probes(rt: HostRuntime) -> Result<(), Fail> {
     let mut kit = two_by_three(Order::RowsFirst)?;
     assert_eq!(rt; kit.probe(2, 1, Height(100_000)), Ok(()));
     assert_eq!(rt; kit.probe(2, 3, Height(-100_000)), Ok(()));
-    assert_eq!(rt; fault_of(kit.probe(2, 2, Height(100_001))), beyond(2, 2, 1));
+    assert_eq!(rt; kit.probe(2, 2, Height(100_001)).err(), beyond(2, 2, 1));
     assert_eq!(rt;
-        fault_of(kit.probe(1, 3, Height(-100_001))),
+        kit.probe(1, 3, Height(-100_001)).err(),
         beyond(1, 3, 1)
     );
     assert_eq!(rt;
