@@ -11,56 +11,53 @@ pub(crate) enum Work {
 }
 
 // Random bits, the same in every run.
-fn next(state: &mut u64) -> u32 {
-    *state = state
-        .wrapping_mul(6_364_136_223_846_793_005)
-        .wrapping_add(1_442_695_040_888_963_407);
-    (*state >> 33) as u32
+#[derive(Drop)]
+struct Random {
+    state: u64,
 }
 
-// A random part, within the limit of a panel.
-fn part(state: &mut u64) -> i32 {
-    (next(state) % 200_001) as i32 - 100_000
-}
-
-// A random place in the area of a panel of 64 by 64.
-fn place(state: &mut u64) -> i32 {
-    (32 + next(state) % 2016) as i32
-}
-
-// The sample with every part random.
-fn random<K: Sample>(sample: K, state: &mut u64) -> K {
-    let mut changed = sample;
-    for k in 0..K::PARTS {
-        changed = changed.replace_part(k.wrapping_add(1), part(state));
+impl Random {
+    fn next(&mut self) -> u32 {
+        self.state = self
+            .state
+            .wrapping_mul(6_364_136_223_846_793_005)
+            .wrapping_add(1_442_695_040_888_963_407);
+        (self.state >> 33) as u32
     }
-    changed
-}
 
-// Every sample random, the same in every run.
-fn fill<K: Sample>(samples: &mut [K]) {
-    let mut state = 12_409;
-    for sample in samples.iter_mut() {
-        *sample = random(*sample, &mut state);
+    // A random part, within the limit of a panel.
+    fn part(&mut self) -> i32 {
+        (self.next() % 200_001) as i32 - 100_000
+    }
+
+    // A random place in the area of a panel of 64 by 64.
+    fn place(&mut self) -> i32 {
+        (32 + self.next() % 2016) as i32
+    }
+
+    // The sample with every part random.
+    fn sample<K: Sample>(&mut self, sample: K) -> K {
+        let mut changed = sample;
+        for part in 1..=K::PARTS {
+            changed = changed.replace_part(part, self.part());
+        }
+        changed
     }
 }
 
 // The first parts of a grid, added up.
 fn sum_of<K: Sample>(grid: &[K]) -> i64 {
-    let mut sum = 0i64;
-    for sample in grid {
-        sum = sum.wrapping_add(i64::from(sample.part(1)));
-    }
-    sum
+    grid.iter()
+        .fold(0i64, |sum, sample| sum.wrapping_add(i64::from(sample.part(1))))
 }
 
 // Readings at random places.
 fn readings<K: Sample>(panel: &Panel, controls: &[K], times: u32) -> i64 {
-    let mut state = 777;
+    let mut random = Random { state: 777 };
     let mut sum = 0i64;
     for _ in 0..times {
-        let x = place(&mut state);
-        let y = place(&mut state);
+        let x = random.place();
+        let y = random.place();
         if let Ok((reading, tolerance)) = panel.read(controls, x, y) {
             sum = sum
                 .wrapping_add(i64::from(reading.part(1)))
@@ -70,7 +67,7 @@ fn readings<K: Sample>(panel: &Panel, controls: &[K], times: u32) -> i64 {
     sum
 }
 
-// Whole fits, a sample changed before each.
+// Whole fits, a sample changed before each. The panel and its grids are no struct: that one of any kind fits in memory is not proved.
 fn fits<K: Sample>(
     panel: &mut Panel,
     samples: &mut [K],
@@ -90,11 +87,15 @@ fn fits<K: Sample>(
     sum
 }
 
-// Makes and fits a panel and does the work so many times; answers a check sum.
+// Makes and fits a panel and does the work so many times; answers a check sum. One word of the command names the work and another the kind of
+// sample: a closure for the work would take one kind, so the work is an enum.
 pub(crate) fn done<K: Sample, const N: usize>(samples: &mut [K; N], work: Work, times: u32) -> i64 {
     let mut halves = *samples;
     let mut controls = *samples;
-    fill(samples);
+    let mut random = Random { state: 12_409 };
+    for sample in samples.iter_mut() {
+        *sample = random.sample(*sample);
+    }
     let made = Panel::make(64, 64, Order::RowsFirst, samples, &halves, &controls);
     let Ok(mut panel) = made else {
         return 0;
