@@ -7,7 +7,6 @@ ghost use Rattle.panel.specs.Fit.{fit_answer, fit_panel, fit_halves, fit_control
 ghost use Rattle.panel.specs.Runs.{Reached, History, ran_since};
 
 use crate::make::may_make;
-use crate::marks::mark_count;
 use crate::record::Panel;
 use grid::sample::Sample;
 use line::solver::LineSolver;
@@ -22,17 +21,15 @@ fn line_number(index: usize) -> i32
 }
 
 impl Panel {
-    // The checks of make, on the panel's own sizes. (That there are 64 marks is known of the array once it is lent as a slice.)
+    // The checks of make, on the panel's own sizes.
     fn may_fit<K: Sample>(
         &self,
         samples: &[K],
         halves: &[K],
         controls: &[K],
     ) -> Result<(), PanelFault>
-        ensures answer { result ≡ fit_answer self.now (map K.Sample.parts samples.now) (map K.Sample.parts halves.now) (map K.Sample.parts controls.now) }
-        ensures marks { length self.now.first ≡ 64 }
+        ensures { result ≡ fit_answer self.now (map K.Sample.parts samples.now) (map K.Sample.parts halves.now) (map K.Sample.parts controls.now) }
     {
-        let _ = mark_count(&self.first);
         may_make(
             self.size.rows as i32,
             self.size.columns as i32,

@@ -84,12 +84,3 @@ pub(crate) fn greatest_grade(marks: &[Mark], count: usize) -> u8
     }
     most
 }
-
-// How many marks an array of them has.
-pub(crate) fn mark_count(marks: &[Mark; 64]) -> usize
-    ensures count { result ≡ 64 }
-    ensures long { length marks.now ≡ 64 }
-{
-    let slice: &[Mark] = marks;
-    slice.len()
-}

@@ -1,4 +1,4 @@
-use Rattle.std.proofs.Common.{◌≡◌, ◌≤◌, true, map, length, sym, ap, ◌∙◌, subst, ap₂, subst₂, arith}
+use Rattle.std.proofs.Common.{◌≡◌, ◌≤◌, true, map, length, sym, ap, ◌∙◌, subst, ap₂, subst₂, arith, rules}
 use Rattle.std.proofs.lemmas.Bool.{false≢true}
 use Rattle.panel.specs.Calls.{first_lines, second_lines, all_current}
 use Rattle.panel.specs.Fit.{seconds_panel, controls_fitted, SecondReady}
@@ -9,7 +9,7 @@ use Rattle.panel.proofs.record.Panel.fitted.Goals as goal
 pub fit_first_lines-requires : goal.fit_first_lines-requires
 fit_first_lines-requires g c =
     let f = g.K.Sample.parts in
-    (ready_to_fit c.args.self.now (map f c.args.samples.now) (map f c.args.halves.now) (map f c.args.controls.now) (sym c.in_ok-may_fit.ensures.answer)).0
+    (ready_to_fit c.args.self.now (map f c.args.samples.now) (map f c.args.halves.now) (map f c.args.controls.now) (sym c.in_ok-may_fit.ensures)).0
 
 pub fit_second_lines-requires : goal.fit_second_lines-requires
 fit_second_lines-requires g c =
@@ -17,9 +17,9 @@ fit_second_lines-requires g c =
     let p = c.args.self.now in
     let first = g.S.LineSolver.meaning in
     let controls = map f c.args.controls.now in
-    let ready = ready_to_fit p (map f c.args.samples.now) (map f c.args.halves.now) controls (sym c.in_ok-may_fit.ensures.answer) in
+    let ready = ready_to_fit p (map f c.args.samples.now) (map f c.args.halves.now) controls (sym c.in_ok-may_fit.ensures) in
     let few = few_lines p ready.0.rows_within ready.0.columns_within in
-    let long : length p.first ≡ 64 = c.in_ok-may_fit.ensures.marks in
+    let long : length p.first ≡ 64 = search rules in
     let low : first_lines p ≤ length p.first = omega arith in
     let panel = c.fit_first_lines.ensures.panel in (
       subst₂ (λ q halves. SecondReady g.K.Sample.PARTS q halves controls) (sym panel) (sym c.fit_first_lines.ensures.after)
@@ -32,7 +32,7 @@ returns g c =
     let f = g.K.Sample.parts in
     let p = c.args.self.now in
     let second = g.T.LineSolver.meaning in
-    let ok = sym c.in_ok-may_fit.ensures.answer in
+    let ok = sym c.in_ok-may_fit.ensures in
     let panel = c.fit_first_lines.ensures.panel in
     let halves = c.fit_first_lines.ensures.after in
     record {

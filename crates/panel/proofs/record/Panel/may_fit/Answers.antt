@@ -8,8 +8,5 @@ returns g c =
     let f = g.K.Sample.parts in
     let rows : c.args.self.now.size.rows < 256 = search rules in
     let columns : c.args.self.now.size.columns < 256 = search rules in
-    record {
-      answer = c.may_make.ensures ∙ ap₂ (λ m n. make_answer m n (map f c.args.samples.now) (map f c.args.halves.now) (map f c.args.controls.now))
-          (to_z_pos w32 c.args.self.now.size.rows (omega arith)) (to_z_pos w32 c.args.self.now.size.columns (omega arith));
-      marks = c.mark_count.ensures.long;
-    }
+    c.may_make.ensures ∙ ap₂ (λ m n. make_answer m n (map f c.args.samples.now) (map f c.args.halves.now) (map f c.args.controls.now))
+    (to_z_pos w32 c.args.self.now.size.rows (omega arith)) (to_z_pos w32 c.args.self.now.size.columns (omega arith))
