@@ -5,6 +5,7 @@ ghost use Rattle.panel.specs.Calls.{between, sized, parts_within, grid_within, p
 
 use crate::record::Panel;
 use grid::sample::Sample;
+use grid::size::Place;
 use panel_fault::PanelFault;
 
 // Passed, or refused by the fault.
@@ -29,15 +30,12 @@ fn is_within(v: i32) -> bool
 }
 
 // Refuses the first part of a sample that lies beyond 100,000 either way.
-pub(crate) fn parts_within<K: Sample>(
-    row: usize,
-    column: usize,
-    sample: &K,
-) -> Result<(), PanelFault>
-    ensures { result ≡ parts_within row column 1 (K.Sample.parts sample.now) }
+pub(crate) fn parts_within<K: Sample>(place: Place, sample: &K) -> Result<(), PanelFault>
+    ensures { result ≡ parts_within place.row place.column 1 (K.Sample.parts sample.now) }
 {
     for part in 1..=K::PARTS {
         if !is_within(sample.part(part)) {
+            let Place { row, column } = place;
             return Err(PanelFault::PartBeyond { row, column, part });
         }
     }
@@ -50,7 +48,11 @@ pub(crate) fn grid_within<K: Sample>(samples: &[K], columns: usize) -> Result<()
     ensures { result ≡ grid_within columns 0 (map K.Sample.parts samples.now) }
 {
     for (k, sample) in samples.iter().enumerate() {
-        parts_within(k / columns + 1, k % columns + 1, sample)?;
+        let place = Place {
+            row: k / columns + 1,
+            column: k % columns + 1,
+        };
+        parts_within(place, sample)?;
     }
     Ok(())
 }

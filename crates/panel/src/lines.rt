@@ -19,36 +19,36 @@ use panel_fault::PanelFault;
 
 impl Panel {
     fn row_lane(&self, row: usize) -> Lane
-        requires { (1 ≤ row) × (row < 256) }
+        requires { row < 256 }
         ensures { result ≡ row_lane self.now row }
     {
+        let columns = usize::from(self.size.columns);
         Lane {
-            start: (row - 1) * self.size.columns as usize,
+            start: row.saturating_sub(1) * columns,
             step: 1,
-            count: self.size.columns as usize,
+            count: columns,
         }
     }
 
     fn column_lane(&self, column: usize) -> Lane
-        requires { 1 ≤ column }
         ensures { result ≡ column_lane self.now column }
     {
         Lane {
-            start: column - 1,
-            step: self.size.columns as usize,
-            count: self.size.rows as usize,
+            start: column.saturating_sub(1),
+            step: usize::from(self.size.columns),
+            count: usize::from(self.size.rows),
         }
     }
 
     fn first_lane(&self, line: usize) -> Lane
-        requires { (1 ≤ line) × (line < 256) }
+        requires { line < 256 }
         ensures { result ≡ first_lane self.now line }
     {
         self.order.pick(self.row_lane(line), self.column_lane(line))
     }
 
     fn second_lane(&self, line: usize) -> Lane
-        requires { (1 ≤ line) × (line < 256) }
+        requires { line < 256 }
         ensures { result ≡ second_lane self.now line }
     {
         self.order.pick(self.column_lane(line), self.row_lane(line))
@@ -80,7 +80,6 @@ impl Panel {
 
     // A first line ran, so every second line goes stale.
     fn first_ran(&mut self, line: usize, grade: u8)
-        requires { 1 ≤ line }
         ensures { self.new ≡ first_ran_panel self.old line grade }
     {
         run_at(&mut self.first, line, grade);
@@ -88,7 +87,6 @@ impl Panel {
     }
 
     fn second_ran(&mut self, line: usize, grade: u8)
-        requires { 1 ≤ line }
         ensures { self.new ≡ second_ran_panel self.old line grade }
     {
         run_at(&mut self.second, line, grade);

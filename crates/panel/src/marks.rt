@@ -25,21 +25,21 @@ pub(crate) fn let_go(marks: &mut [Mark])
 
 // One line goes stale and keeps its grade.
 pub(crate) fn let_go_at(marks: &mut [Mark], line: usize)
-    requires { 1 ≤ line }
     ensures { marks.new ≡ stale_at marks.old line }
 {
-    if line <= marks.len() {
-        marks[line - 1] = marks[line - 1].let_go();
+    let i = line.saturating_sub(1);
+    if i < marks.len() {
+        marks[i] = marks[i].let_go();
     }
 }
 
 // A line ran by a solver of this grade.
 pub(crate) fn run_at(marks: &mut [Mark], line: usize, grade: u8)
-    requires { 1 ≤ line }
     ensures { marks.new ≡ ran_at marks.old line grade }
 {
-    if line <= marks.len() {
-        marks[line - 1] = Mark::Current(grade);
+    let i = line.saturating_sub(1);
+    if i < marks.len() {
+        marks[i] = Mark::Current(grade);
     }
 }
 

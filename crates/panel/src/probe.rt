@@ -11,6 +11,7 @@ use crate::checks::{check, is_between, parts_within};
 use crate::marks::{let_go, let_go_at};
 use crate::record::{Panel, index_of};
 use grid::sample::Sample;
+use grid::size::Place;
 use panel_fault::PanelFault;
 
 impl Panel {
@@ -18,7 +19,8 @@ impl Panel {
     fn has_place(&self, row: i32, column: i32) -> bool
         ensures { result ≡ (between row 1 self.now.size.rows && between column 1 self.now.size.columns) }
     {
-        is_between(row, 1, self.size.rows as usize) && is_between(column, 1, self.size.columns as usize)
+        is_between(row, 1, usize::from(self.size.rows))
+            && is_between(column, 1, usize::from(self.size.columns))
     }
 
     // The checks of a probe, in their order.
@@ -33,16 +35,20 @@ impl Panel {
     {
         check(self.is_sized(samples), PanelFault::GridLength)?;
         check(self.has_place(row, column), PanelFault::Place)?;
-        parts_within(row as usize, column as usize, new)?;
+        let place = Place {
+            row: row as usize,
+            column: column as usize,
+        };
+        parts_within(place, new)?;
         check(self.probes < 60_000, PanelFault::TooManyProbes)
     }
 
     // One probe more: the first line through the place goes stale, and every second line.
-    fn count_probe(&mut self, row: usize, column: usize)
-        requires { (1 ≤ row) × ((1 ≤ column) × (self.old.probes < probe_limit)) }
-        ensures { self.new ≡ probed_panel self.old row column }
+    fn count_probe(&mut self, place: Place)
+        requires { self.old.probes < probe_limit }
+        ensures { self.new ≡ probed_panel self.old place.row place.column }
     {
-        let line = self.order.pick(row, column);
+        let line = self.order.pick(place.row, place.column);
         self.probes += 1;
         let_go_at(&mut self.first, line);
         let_go(&mut self.second);
@@ -62,14 +68,13 @@ impl Panel {
         ensures same { samples.new ≡ if_ok result (slice_set samples.old (index self.old.size.columns (unsigned_abs row) (unsigned_abs column)) new) samples.old }
     {
         self.may_probe(samples, row, column, &new)?;
-        let k = index_of(
-            samples.len(),
-            self.size.columns as usize,
-            row as usize,
-            column as usize,
-        );
+        let place = Place {
+            row: row as usize,
+            column: column as usize,
+        };
+        let k = index_of(samples.len(), self.size, place);
         samples[k] = new;
-        self.count_probe(row as usize, column as usize);
+        self.count_probe(place);
         Ok(())
     }
 

@@ -5,16 +5,16 @@ ghost use Rattle.std.specs.Result.{result_and};
 ghost use Rattle.grid.specs.Checks.{check as checked};
 ghost use Rattle.grid.specs.Grid.{Grid};
 ghost use Rattle.panel.specs.Calls.{sized, mark, grade_of, first_lines};
-ghost use Rattle.panel.specs.Reading.{InArea, in_area, needed as needed_line, needed_current, greatest, tolerance as stated, read_answer, shown};
+ghost use Rattle.panel.specs.Reading.{InArea, in_area, needed as needed_line, needed_current, greatest, read_answer, shown};
 ghost use Rattle.panel.specs.Runs.{Reached, History, ReadsFaithfully};
 
 use crate::checks::{check, is_between};
-use crate::marks::{are_current, greatest_grade, mark_of};
+use crate::marks::{are_current, greatest_grade};
 use crate::record::Panel;
 use crate::view::View;
 use grid::sample::Sample;
 use panel_fault::PanelFault;
-use surface::patch::{lines_around, tolerance};
+use surface::patch::lines_around;
 
 // The last place, in 32nds, before the last of so many rows or columns.
 fn last_before(count: u8) -> usize
@@ -32,7 +32,7 @@ impl Panel {
     }
 
     // The second lines through the sixteen control points around a place.
-    fn needed(&self, x: usize, y: usize) -> [usize; 4]
+    pub(crate) fn needed(&self, x: usize, y: usize) -> [usize; 4]
         ensures { result ≡ map (needed_line self.now x y) (range_with_len 0 4) }
     {
         lines_around(self.second_lines(), self.order.pick(y, x))
@@ -58,28 +58,10 @@ impl Panel {
     }
 
     // The greatest grade of all first lines.
-    fn first_grade(&self) -> u8
+    pub(crate) fn first_grade(&self) -> u8
         ensures { result ≡ greatest (λ i. grade_of (mark self.now.first i)) (first_lines self.now) }
     {
         greatest_grade(&self.first, self.first_lines())
-    }
-
-    // The greatest grade of the second lines that a reading needs.
-    fn second_grade(&self, x: usize, y: usize) -> u8
-        ensures { result ≡ greatest (λ a. grade_of (mark self.now.second (needed_line self.now x y (a - 1)))) 4 }
-    {
-        let mut most = 0;
-        for line in &self.needed(x, y) {
-            most = mark_of(&self.second, *line).grade().max(most);
-        }
-        most
-    }
-
-    // The tolerance of a reading.
-    fn tolerance(&self, x: usize, y: usize) -> u32
-        ensures { result ≡ stated self.now x y }
-    {
-        tolerance(self.first_grade(), self.second_grade(x, y))
     }
 
     // A reading with its checks.
@@ -94,7 +76,7 @@ impl Panel {
             y: y as usize,
         };
         let sample = view.reading()?;
-        Ok((sample, self.tolerance(view.x, view.y)))
+        Ok((sample, view.tolerance()))
     }
 
     // Reads the surface at x along the rows' numbering and y along the columns', in 32nds with row 1 at 32: the reading in fine units, part

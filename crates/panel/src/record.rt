@@ -3,7 +3,7 @@ ghost use Rattle.std.specs.Prelude.{◌≡◌, ◌*◌, ◌<◌, ◌≤◌};
 ghost use Rattle.grid.specs.Place.{index};
 ghost use Rattle.panel.specs.Calls.{pick as chosen, first_lines, second_lines, grade_of, is_current, let_go};
 
-use grid::size::GridSize;
+use grid::size::{GridSize, Place};
 
 // Which lines are fitted first: the rows, and then the columns, or the reverse.
 #[derive(Clone, Copy, PartialEq, Eq, Debug)]
@@ -89,12 +89,11 @@ impl Panel {
 }
 
 // Where a place stands in a grid of that length.
-pub(crate) fn index_of(length: usize, columns: usize, row: usize, column: usize) -> usize
-    requires row_counted { 1 ≤ row }
-    requires column_counted { 1 ≤ column }
-    requires inside { index columns row column < length }
-    ensures value { result ≡ index columns row column }
+pub(crate) fn index_of(length: usize, size: GridSize, place: Place) -> usize
+    requires { index size.columns place.row place.column < length }
+    ensures value { result ≡ index size.columns place.row place.column }
     ensures within { result < length }
 {
-    (row - 1) * columns + (column - 1)
+    let columns = usize::from(size.columns);
+    place.row.saturating_sub(1) * columns + place.column.saturating_sub(1)
 }

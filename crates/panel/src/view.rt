@@ -1,17 +1,20 @@
 // The control points of a panel as they are read around one place.
-ghost use Rattle.std.specs.Prelude.{◌≡◌, ℕ, ◌*◌, ◌<◌, map, length, if◌then◌else◌, Some, None, Ok, slice_index};
+ghost use Rattle.std.specs.Prelude.{◌≡◌, ℕ, ◌-◌, ◌*◌, ◌<◌, map, length, if◌then◌else◌, Some, None, Ok, slice_index};
 ghost use Rattle.std.specs.List.{range_with_len};
 ghost use Rattle.std.specs.Result.{result_and};
 ghost use Rattle.grid.specs.Checks.{check as checked};
 ghost use Rattle.grid.specs.Grid.{at};
 ghost use Rattle.line.specs.Line.{OnLine};
 ghost use Rattle.surface.specs.Patch.{within_reach};
-ghost use Rattle.panel.specs.Reading.{InArea, needed_within, around, reading as part_read, sample_shown};
+ghost use Rattle.panel.specs.Calls.{mark, grade_of};
+ghost use Rattle.panel.specs.Reading.{InArea, needed, needed_within, around, reading as part_read, greatest, tolerance as stated, sample_shown};
 
+use crate::marks::mark_of;
 use crate::record::{Panel, index_of};
 use grid::sample::Sample;
+use grid::size::Place;
 use panel_fault::PanelFault;
-use surface::patch::{lines_around, patch_reading};
+use surface::patch::{lines_around, patch_reading, tolerance};
 
 // A panel, its control points, and a place of its area in 32nds.
 #[derive(Drop)]
@@ -30,8 +33,7 @@ impl<K: Sample> View<'_, K> {
         requires { (OnLine self.now.panel.now.size.rows row) × (OnLine self.now.panel.now.size.columns column) }
         ensures { result ≡ at self.now.panel.now.size.columns (map K.Sample.parts self.now.controls.now) part row column }
     {
-        let columns = usize::from(self.panel.size.columns);
-        let k = index_of(self.controls.len(), columns, row, column);
+        let k = index_of(self.controls.len(), self.panel.size, Place { row, column });
         self.controls[k].part(part)
     }
 
@@ -81,5 +83,23 @@ impl<K: Sample> View<'_, K> {
             sample = sample.replace_part(k + 1, part);
         }
         Ok(sample)
+    }
+
+    // The greatest grade of the second lines that the reading needs.
+    fn second_grade(&self) -> u8
+        ensures { result ≡ greatest (λ a. grade_of (mark self.now.panel.now.second (needed self.now.panel.now self.now.x self.now.y (a - 1)))) 4 }
+    {
+        let mut most = 0;
+        for line in &self.panel.needed(self.x, self.y) {
+            most = mark_of(&self.panel.second, *line).grade().max(most);
+        }
+        most
+    }
+
+    // The tolerance of the reading.
+    pub(crate) fn tolerance(&self) -> u32
+        ensures { result ≡ stated self.now.panel.now self.now.x self.now.y }
+    {
+        tolerance(self.panel.first_grade(), self.second_grade())
     }
 }

@@ -19,7 +19,7 @@ index_of-k-requires g c =
     let column = to_z-of_z w32 c.args.column c.ranges.column in
     let ok = rw (row, column) at c.in_ok-may_probe.ensures in
     let at = probing c.args.self.now (map g.K.Sample.parts c.args.samples.now) c.args.row c.args.column (g.K.Sample.parts c.args.new) (sym ok) in
-    rw (row, column) (record { row_counted = at.on_row.0; column_counted = at.on_column.0; inside = simp length-map at at.within })
+    rw (row, column) (simp length-map at at.within)
 
 pub returns : goal.returns
 returns g c =

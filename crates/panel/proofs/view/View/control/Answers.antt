@@ -1,7 +1,6 @@
 use Rattle.std.proofs.Common.{◌≡◌, ◌<◌, [], map, length, get_or, sym, ap, ◌∙◌, arith, w32, SFits, rules}
 use Rattle.std.proofs.lemmas.List.{get_or-map}
 use Rattle.std.proofs.lemmas.Int.{to_z-of_z}
-use Rattle.grid.specs.Place.{index}
 use Rattle.grid.specs.Sample.{part_of}
 use Rattle.panel.proofs.Places.{index_within}
 use Rattle.panel.proofs.view.View.control.Goals as goal
@@ -9,7 +8,7 @@ use Rattle.panel.proofs.view.View.control.Goals as goal
 pub index_of-k-requires : goal.index_of-k-requires
 index_of-k-requires g c =
     let within = index_within c.args.self.now.panel.now.size.rows c.args.self.now.panel.now.size.columns c.args.row c.args.column c.requires.0 c.requires.1 in
-    record { row_counted = c.requires.0.0; column_counted = c.requires.1.0; inside = rw c.from-columns.ensures (omega (arith, c.args.self.now.sized)) }
+    omega (arith, c.args.self.now.sized)
 
 pub returns : goal.returns
 returns g c =
@@ -18,4 +17,4 @@ returns g c =
     let low : c.index_of-k.result < length c.args.self.now.controls.now = c.index_of-k.ensures.within in
     let at = get_or-map f c.args.self.now.controls.now c.index_of-k.result c.index-self-k.result [] low in
     to_z-of_z w32 c.part.result fits ∙ c.part.ensures.value ∙ ap (λ v. part_of v c.args.part) (sym at)
-    ∙ ap (λ k. part_of (get_or (map f c.args.self.now.controls.now) k []) c.args.part) (c.index_of-k.ensures.value ∙ ap (λ columns. index columns c.args.row c.args.column) c.from-columns.ensures)
+    ∙ ap (λ k. part_of (get_or (map f c.args.self.now.controls.now) k []) c.args.part) c.index_of-k.ensures.value
