@@ -1,6 +1,8 @@
 -- The definitions that the contracts of this crate cite.
 pub mod Refusal
+pub mod Kind
 pub mod Field
+pub mod Walk
 pub mod Layout
 pub mod Open
 pub mod Fill

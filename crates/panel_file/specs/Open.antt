@@ -4,6 +4,7 @@ use Rattle.std.specs.Result.{result_and}
 use Rattle.grid.specs.declared.size.GridSize.{GridSize}
 use Rattle.panel_file.specs.declared.opened.PanelFile.{PanelFile}
 use Rattle.panel_file.specs.declared.refusal.FileRefusal.{FileRefusal}
+use Rattle.panel_file.specs.Kind.{kind_parts}
 use Rattle.panel_file.specs.Field.{Answer}
 use Rattle.panel_file.specs.Layout.{sizes_answer, size_of, parts_of, samples_answer, samples_end, name_answer, name_at}
 
@@ -13,9 +14,9 @@ pub record Summary : Type 0 where
   pub parts : ℕ
   pub name : List ℕ
 
--- An opened file, with the bytes of its name in place of where they stand.
+-- An opened file, with the number of parts of its kind, and the bytes of its name in place of where they stand.
 abbrev pub said_by : PanelFile → Summary
-said_by opened = record { size = opened.size; parts = opened.parts; name = opened.name.now }
+said_by opened = record { size = opened.size; parts = kind_parts opened.kind; name = opened.name.now }
 
 -- The same of an answer; a refusal is as it is.
 abbrev pub shown : Result PanelFile FileRefusal → Result Summary FileRefusal

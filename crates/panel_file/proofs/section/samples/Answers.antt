@@ -1,18 +1,22 @@
--- No count of numbers is too great for its type.
-use Rattle.std.proofs.Common.{◌≡◌, ℕ, ◌*◌, ◌≤◌, mul-le-mul, arith, rules}
+-- The parts of the samples.
+use Rattle.std.proofs.Common.{rules}
+use Rattle.grid.proofs.Chains.{refused_by, passed_by}
+use Rattle.panel_file.specs.declared.refusal.FileFault.TheVariants.{PartBeyond}
+use Rattle.panel_file.specs.Field.{part_at}
+use Rattle.panel_file.specs.Kind.{kind_parts}
+use Rattle.panel_file.specs.Layout.{part_fits}
+use Rattle.panel_file.proofs.Rows.{samples_row}
+use Rattle.panel_file.proofs.Walk.{walked}
 use Rattle.panel_file.proofs.section.samples.Goals as goal
 
--- Rows and columns are bytes, and so is the number of parts.
-numbers_few : (rows columns parts places : ℕ) → rows ≤ 255 → columns ≤ 255 → parts ≤ 255 → places ≡ rows * columns → places * parts ≤ 16581375
-numbers_few rows columns parts places r s p e =
-    let some : rows * columns ≤ 65025 = mul-le-mul r s in
-    let few : places ≤ 65025 = omega arith in
-    mul-le-mul few p
-
-pub parts_within-requires : goal.parts_within-requires
-parts_within-requires c =
-    omega (arith, numbers_few c.args.size.rows c.args.size.columns c.args.parts c.count-places.result (search rules) (search rules) (search rules) c.count-places.ensures)
+pub returns-in_err-end : goal.returns-in_err-end
+returns-in_err-end c =
+    let row = walked c.args.file.now PartBeyond 4 (λ at. part_fits (part_at c.args.file.now at)) _ (λ here r made. search rules) _ _ _ c.in_err-end.ensures in
+    let refused = refused_by _ _ _ (samples_row c.args.file.now c.args.shape.size (kind_parts c.args.shape.kind) _ _ _ _ c.at-first.ensures c.parts.ensures c.after.ensures row) in
+    search rules
 
 pub returns : goal.returns
 returns c =
-    record { answer = search rules; bound = omega (arith, numbers_few c.args.size.rows c.args.size.columns c.args.parts c.count-places.result (search rules) (search rules) (search rules) c.count-places.ensures) }
+    let row = walked c.args.file.now PartBeyond 4 (λ at. part_fits (part_at c.args.file.now at)) _ (λ here r made. search rules) _ _ _ c.in_ok-end.ensures in
+    let passed = passed_by _ _ _ (samples_row c.args.file.now c.args.shape.size (kind_parts c.args.shape.kind) _ _ _ _ c.at-first.ensures c.parts.ensures c.after.ensures row) in
+    search rules

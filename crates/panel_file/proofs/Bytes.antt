@@ -1,0 +1,89 @@
+-- The bytes of a field, as the code reads them.
+use Rattle.std.proofs.Common.{◌≡◌, ℕ, ◌+◌, ◌-◌, ◌<◌, ◌≤◌, cond, ltb, leb, negsuc, Option, Some, None, MatchOption, IsSome, Ok, Err, Result, List, length, get_or, take, drop, slice_range, zero, suc, ◌*◌, pos, w32, add-zero, zero-add, sym, refl, ap, ◌∙◌, ◌⊎◌, inl, inr, arith, rules}
+use Rattle.std.proofs.lemmas.Bool.{le-leb, lt-leb}
+use Rattle.std.proofs.lemmas.List.{take_all, length-drop, drop-drop, get_or-drop, get_or-take}
+use Rattle.std.proofs.lemmas.List.FromFn.{fill_by_all, get_or-map-range_with_len, length-map-range_with_len}
+use Rattle.std.specs.Array.{IsFirstChunk}
+use Rattle.std.specs.Option.{ok_or, option_copied}
+use Rattle.std.specs.Slice.{IsGetRangeResult}
+use Rattle.std.specs.Result.{result_and}
+use Rattle.std.specs.Int.{cast_signed, from_le_bytes}
+use Rattle.std.specs.Simd.{first_chunks}
+use denote.Ref.{Bor}
+use Rattle.grid.specs.Checks.{check}
+use Rattle.panel_file.specs.declared.refusal.FileRefusal.{FileRefusal}
+use Rattle.panel_file.specs.Field.{signed, part_at}
+use Rattle.panel_file.specs.Fill.{parts_at}
+
+-- A slice up to the end is all that is left.
+pub tail : (file : List ℕ) (at : ℕ) → take (length file - at) (drop at file) ≡ drop at file
+tail file at = take_all (length file - at) (drop at file) (omega (arith, length-drop at file))
+
+module _ (file : List ℕ) (at : ℕ) (early : FileRefusal) where
+  -- the file goes on to the offset: what stands from there on
+  pub rest_found : (o : Option (Bor (List ℕ))) → IsGetRangeResult file at (length file) o → (rest : Bor (List ℕ)) → Ok rest ≡ ok_or o early →
+      (at ≤ length file) × (rest.now ≡ drop at file)
+  rest_found None h rest e = search rules
+  rest_found (Some x) ((there, _, is, _), _) rest e =
+      let same : rest ≡ x = search rules in
+      (there, ap (λ (b : Bor (List ℕ)). b.now) same ∙ is ∙ tail file at)
+
+  -- it does not
+  pub rest_lost : (o : Option (Bor (List ℕ))) → IsGetRangeResult file at (length file) o → (refusal : FileRefusal) → Err refusal ≡ ok_or o early → (length file < at) × (refusal ≡ early)
+  rest_lost (Some x) h refusal e = search rules
+  rest_lost None (inl low, _) refusal e = (low, search rules)
+  rest_lost None (inr low, _) refusal e = absurd (omega arith)
+
+  module _ (n : ℕ) where
+    -- The N bytes, or the refusal.
+    abbrev pub Bytes : Result (List ℕ) FileRefusal
+    Bytes = result_and (check (leb (at + n) (length file)) early) (Ok (take n (drop at file)))
+
+    pub none : length file < at + n → Bytes ≡ Err early
+    none h = ap (λ b. result_and (check b early) (Ok (take n (drop at file)))) (lt-leb _ _ h)
+
+    -- the field is whole or not
+    pub chunk : (o : Option (Bor (List ℕ))) (rest : List ℕ) → at ≤ length file → rest ≡ drop at file → MatchOption o (length rest < n) (λ y. IsFirstChunk rest y.now n) →
+        ok_or (option_copied o) early ≡ Bytes
+    chunk None rest there is h = sym (none (omega (arith, ap length is, length-drop at file)))
+    chunk (Some y) rest there is h =
+        ap Ok (h.same ∙ ap (take n) is)
+        ∙ sym (ap (λ b. result_and (check b early) (Ok (take n (drop at file)))) (le-leb _ _ (omega (arith, h.enough, ap length is, length-drop at file))))
+
+-- A byte of a part of the file is the file's.
+pub byte_of : (file : List ℕ) (at n i : ℕ) → i < n → get_or (take n (drop at file)) i 0 ≡ get_or file (at + i) 0
+byte_of file at n i low = get_or-take n (drop at file) i 0 low ∙ get_or-drop at file i 0
+
+-- The k-th chunk of so many bytes.
+pub chunk_at : (n m k : ℕ) (xs : List ℕ) (d : List ℕ) → k < m → get_or (first_chunks n m xs) k d ≡ take n (drop (k * n) xs)
+chunk_at n zero k xs d low = absurd (omega arith)
+chunk_at n (suc m) zero xs d low = let none : 0 * n ≡ 0 = omega arith in rw none refl
+chunk_at n (suc m) (suc k) xs d low =
+    let on : suc k * n ≡ n + k * n = omega arith in
+    chunk_at n m k (drop n xs) d (omega arith) ∙ ap (take n) (drop-drop (k * n) n xs ∙ ap (λ i. drop i xs) (sym on))
+
+signed_is : (n : ℕ) → cast_signed w32 n ≡ signed n
+signed_is n =
+    let e : 4294967296 - suc n ≡ 4294967295 - n = omega arith in
+    ap (λ k. cond (ltb n 2147483648) (pos n) (negsuc k)) e
+
+-- Four bytes as a part.
+pub part_of_bytes : (file : List ℕ) (at : ℕ) → cast_signed w32 (from_le_bytes w32 (take 4 (drop at file))) ≡ part_at file at
+part_of_bytes file at =
+    signed_is (from_le_bytes w32 (take 4 (drop at file)))
+    ∙ rw (byte_of file at 4 0 (omega arith), byte_of file at 4 1 (omega arith), byte_of file at 4 2 (omega arith), byte_of file at 4 3 (omega arith), add-zero at) refl
+
+-- A part that lies within a part of the file is the file's.
+pub part_within : (file : List ℕ) (at w i : ℕ) → i + 4 ≤ w → part_at (take w (drop at file)) i ≡ part_at file (at + i)
+part_within file at w i low =
+    let b1 : at + (i + 1) ≡ at + i + 1 = omega arith in
+    let b2 : at + (i + 2) ≡ at + i + 2 = omega arith in
+    let b3 : at + (i + 3) ≡ at + i + 3 = omega arith in
+    rw (byte_of file at w i (omega arith), byte_of file at w (i + 1) (omega arith), byte_of file at w (i + 2) (omega arith), byte_of file at w (i + 3) (omega arith), b1, b2, b3) refl
+
+-- So are so many.
+pub parts_within : (file : List ℕ) (at w n : ℕ) → w ≡ n * 4 → parts_at (take w (drop at file)) n 0 ≡ parts_at file n at
+parts_within file at w n e =
+    fill_by_all (λ k. part_at file (at + k * 4)) (parts_at (take w (drop at file)) n 0) n (pos 0) (length-map-range_with_len (λ k. part_at (take w (drop at file)) (0 + k * 4)) 0 n)
+    (λ j low. get_or-map-range_with_len (λ k. part_at (take w (drop at file)) (0 + k * 4)) 0 n j j (pos 0) low (omega arith)
+    ∙ part_within file at w (0 + j * 4) (omega arith) ∙ ap (λ k. part_at file (at + k)) (zero-add (j * 4)))
