@@ -31,7 +31,8 @@ pub enum Section {
     Name = 3,
 }
 
-#[derive(Clone, Copy, PartialEq, Eq, Debug)]
+#[derive(Clone, Copy, PartialEq, Eq, Debug, Error)]
+#[error("refused {}, section {}, byte {offset}", .fault.number(), .section.number())]
 pub struct FileRefusal {
     pub fault: FileFault,
     pub section: Section,
