@@ -1,54 +1,15 @@
 -- The bytes of a field, as the code reads them.
 use Rattle.std.proofs.Common.{◌≡◌, ℕ, ◌+◌, ◌-◌, ◌<◌, ◌≤◌, cond, ltb, leb, negsuc, Option, Some, None, MatchOption, IsSome, Ok, Err, Result, List, length, get_or, take, drop, slice_range, zero, suc, ◌*◌, pos, w32, add-zero, zero-add, sym, refl, ap, ◌∙◌, ◌⊎◌, inl, inr, arith, rules}
-use Rattle.std.proofs.lemmas.Bool.{le-leb, lt-leb}
 use Rattle.std.proofs.lemmas.List.{take_all, length-drop, drop-drop, get_or-drop, get_or-take}
 use Rattle.std.proofs.lemmas.List.FromFn.{fill_by_all, get_or-map-range_with_len, length-map-range_with_len}
-use Rattle.std.specs.Array.{IsFirstChunk}
-use Rattle.std.specs.Option.{ok_or, option_copied}
-use Rattle.std.specs.Slice.{IsGetRangeResult}
-use Rattle.std.specs.Result.{result_and}
 use Rattle.std.specs.Int.{cast_signed, from_le_bytes}
 use Rattle.std.specs.Simd.{first_chunks}
-use denote.Ref.{Bor}
-use Rattle.grid.specs.Checks.{check}
-use Rattle.panel_file.specs.declared.refusal.FileRefusal.{FileRefusal}
 use Rattle.panel_file.specs.Field.{signed, part_at}
 use Rattle.panel_file.specs.Fill.{parts_at}
 
 -- A slice up to the end is all that is left.
 pub tail : (file : List ℕ) (at : ℕ) → take (length file - at) (drop at file) ≡ drop at file
 tail file at = take_all (length file - at) (drop at file) (omega (arith, length-drop at file))
-
-module _ (file : List ℕ) (at : ℕ) (early : FileRefusal) where
-  -- the file goes on to the offset: what stands from there on
-  pub rest_found : (o : Option (Bor (List ℕ))) → IsGetRangeResult file at (length file) o → (rest : Bor (List ℕ)) → Ok rest ≡ ok_or o early →
-      (at ≤ length file) × (rest.now ≡ drop at file)
-  rest_found None h rest e = search rules
-  rest_found (Some x) ((there, _, is, _), _) rest e =
-      let same : rest ≡ x = search rules in
-      (there, ap (λ (b : Bor (List ℕ)). b.now) same ∙ is ∙ tail file at)
-
-  -- it does not
-  pub rest_lost : (o : Option (Bor (List ℕ))) → IsGetRangeResult file at (length file) o → (refusal : FileRefusal) → Err refusal ≡ ok_or o early → (length file < at) × (refusal ≡ early)
-  rest_lost (Some x) h refusal e = search rules
-  rest_lost None (inl low, _) refusal e = (low, search rules)
-  rest_lost None (inr low, _) refusal e = absurd (omega arith)
-
-  module _ (n : ℕ) where
-    -- The N bytes, or the refusal.
-    abbrev pub Bytes : Result (List ℕ) FileRefusal
-    Bytes = result_and (check (leb (at + n) (length file)) early) (Ok (take n (drop at file)))
-
-    pub none : length file < at + n → Bytes ≡ Err early
-    none h = ap (λ b. result_and (check b early) (Ok (take n (drop at file)))) (lt-leb _ _ h)
-
-    -- the field is whole or not
-    pub chunk : (o : Option (Bor (List ℕ))) (rest : List ℕ) → at ≤ length file → rest ≡ drop at file → MatchOption o (length rest < n) (λ y. IsFirstChunk rest y.now n) →
-        ok_or (option_copied o) early ≡ Bytes
-    chunk None rest there is h = sym (none (omega (arith, ap length is, length-drop at file)))
-    chunk (Some y) rest there is h =
-        ap Ok (h.same ∙ ap (take n) is)
-        ∙ sym (ap (λ b. result_and (check b early) (Ok (take n (drop at file)))) (le-leb _ _ (omega (arith, h.enough, ap length is, length-drop at file))))
 
 -- A byte of a part of the file is the file's.
 pub byte_of : (file : List ℕ) (at n i : ℕ) → i < n → get_or (take n (drop at file)) i 0 ≡ get_or file (at + i) 0

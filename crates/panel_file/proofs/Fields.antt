@@ -11,24 +11,6 @@ use Rattle.panel_file.specs.declared.refusal.Section.{Section}
 use Rattle.panel_file.specs.Field.{Answer, refused, present, field, fields}
 
 module _ (file : List ℕ) (section : Section) (fault : FileFault) (width : ℕ) (holds : ℕ → Bool) where
-  one_more : (n k at : ℕ) → k < n → fields file section fault width holds (n - k) at ≡ result_and (field file section fault width holds at) (fields file section fault width holds (n - (k + 1)) (at + width))
-  one_more n k at h = let e : n - k ≡ suc (n - (k + 1)) = omega arith in rw e refl
-
-  -- the field passes: what is left answers as the whole row does
-  pub fields_more : (n k at next : ℕ) (whole : Answer) → k < n → next ≡ at + width → fields file section fault width holds (n - k) at ≡ whole →
-      field file section fault width holds at ≡ Ok tt → fields file section fault width holds (n - (k + 1)) next ≡ whole
-  fields_more n k at next whole h e left passed =
-      ap (fields file section fault width holds (n - (k + 1))) e
-      ∙ sym (one_more n k at h ∙ ap (λ a. result_and a (fields file section fault width holds (n - (k + 1)) (at + width))) passed)
-      ∙ left
-
-  -- the field is refused: so is the whole row
-  pub fields_stop : (n k at : ℕ) (whole : Answer) (refusal : FileRefusal) → k < n → fields file section fault width holds (n - k) at ≡ whole →
-      field file section fault width holds at ≡ Err refusal → Err refusal ≡ whole
-  fields_stop n k at whole refusal h left failed =
-      sym (one_more n k at h ∙ ap (λ a. result_and a (fields file section fault width holds (n - (k + 1)) (at + width))) failed)
-      ∙ left
-
   -- A good field lies within the file and passes its test.
   abbrev pub Good : ℕ → Type 0
   Good at = (at + width ≤ length file) × (holds at ≡ true)

@@ -21,12 +21,6 @@ module _ (step : Field → Result Field FileRefusal → Type 0) (P : Result Fiel
       let e : n - k ≡ suc (n - (k + 1)) = omega arith in
       before r (rw e (Err refusal, made, is))
 
-  -- and so does the last one
-  pub walk_end : n ≤ k → P (Ok field)
-  walk_end high =
-      let e : n - k ≡ 0 = omega arith in
-      before (Ok field) (rw e refl)
-
 module _ (file : List ℕ) (fault : FileFault) (width : ℕ) (holds : ℕ → Bool) where
   abbrev pub moved : Field → ℕ → Field
   moved here n = record { section = here.section; at = here.at + n }

@@ -1,12 +1,8 @@
 -- One field more, or the first that is refused.
-use Rattle.std.proofs.Common.{◌≡◌, ◌-◌, arith}
 use Rattle.grid.proofs.Chains.{exit}
 use Rattle.panel_file.specs.Walk.{Walks}
-use Rattle.panel_file.proofs.Walk.{walk_on, walk_stop, walk_end}
+use Rattle.panel_file.proofs.Walk.{walk_on, walk_stop}
 use Rattle.panel_file.proofs.field.fields.Goals as goal
-
-pub loop-init : goal.loop-init
-loop-init g c r walk = let e : c.args.count - 0 ≡ c.args.count = omega arith in rw e at walk
 
 pub returns-in_err-field : goal.returns-in_err-field
 returns-in_err-field g c =
@@ -17,7 +13,3 @@ pub loop-preserved : goal.loop-preserved
 loop-preserved g c =
     walk_on (goal.F-post g c.args.pass) (Walks (goal.F-post g c.args.pass) c.args.count c.args.first) c.args.count c.loop.counter c.loop.field c.loop.invariant c.in_ok-field.field
     c.loop-test.true c.in_ok-field.ensures
-
-pub returns : goal.returns
-returns g c =
-    walk_end (goal.F-post g c.args.pass) (Walks (goal.F-post g c.args.pass) c.args.count c.args.first) c.args.count c.loop.counter c.loop.field c.loop.invariant (omega arith)
