@@ -1,6 +1,7 @@
 -- What the checks of an accepted file say, and that they are all there is to say.
 use Rattle.std.proofs.Common.{◌≡◌, ℕ, ◌+◌, ◌*◌, ◌<◌, ◌≤◌, true, eqb, leb, ◌⊎◌, List, length, nat_abs, Ok, ◌∙◌, inl, inr, arith}
 use Rattle.std.proofs.lemmas.Bool.{leb-true, le-leb, eqb-true, eq-eqb, and_parts, and_from, or_cases, or_left, or_right}
+use Rattle.std.proofs.lemmas.Bool.Decides.{nat_tests}
 use Rattle.std.specs.Result.{result_and}
 use Rattle.grid.specs.Checks.{check}
 use Rattle.grid.proofs.Chains.{held, holds_good, both_good, over}
@@ -37,27 +38,22 @@ pub record Accepted (file : List ℕ) : Type 0 where
 -- Tests and what they say
 
 pub sized : (n : ℕ) → size_fits n ≡ true → Sized n
-sized n h = let p = and_parts (leb 2 n) (leb n 64) h in (leb-true _ _ p.0, leb-true _ _ p.1)
+sized n h = (grind (arith, nat_tests), grind (arith, nat_tests))
 
 fits : (n : ℕ) → Sized n → size_fits n ≡ true
-fits n h = and_from (leb 2 n) (leb n 64) (le-leb _ _ h.0) (le-leb _ _ h.1)
+fits n h = grind (arith, nat_tests)
 
 printed : (b : ℕ) → printable b ≡ true → (32 ≤ b) × (b ≤ 126)
-printed b h = let p = and_parts (leb 32 b) (leb b 126) h in (leb-true _ _ p.0, leb-true _ _ p.1)
+printed b h = (grind (arith, nat_tests), grind (arith, nat_tests))
 
 prints : (b : ℕ) → (32 ≤ b) × (b ≤ 126) → printable b ≡ true
-prints b h = and_from (leb 32 b) (leb b 126) (le-leb _ _ h.0) (le-leb _ _ h.1)
+prints b h = grind (arith, nat_tests)
 
 pub one_or_three : (n : ℕ) → parts_fit n ≡ true → (n ≡ 1) ⊎ (n ≡ 3)
-one_or_three n h = go (or_cases (eqb n 1) (eqb n 3) h)
-  where
-    go : (eqb n 1 ≡ true) ⊎ (eqb n 3 ≡ true) → (n ≡ 1) ⊎ (n ≡ 3)
-    go (inl e) = inl (eqb-true _ _ e)
-    go (inr e) = inr (eqb-true _ _ e)
+one_or_three n h = grind (arith, nat_tests)
 
 either : (n : ℕ) → (n ≡ 1) ⊎ (n ≡ 3) → parts_fit n ≡ true
-either n (inl e) = or_left (eqb n 1) (eqb n 3) (eq-eqb _ _ e)
-either n (inr e) = or_right (eqb n 1) (eqb n 3) (eq-eqb _ _ e)
+either n h = grind (arith, nat_tests)
 
 module _ (file : List ℕ) where
   -- the two counts of the tail

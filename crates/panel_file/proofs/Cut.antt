@@ -27,8 +27,7 @@ then_alike (Ok _) h = h refl
 then_alike (Err e) h = refl
 
 at_most_three : (n : ℕ) → (n ≡ 1) ⊎ (n ≡ 3) → n ≤ 3
-at_most_three n (inl e) = omega arith
-at_most_three n (inr e) = omega arith
+at_most_three n h = grind arith
 
 -- A file and its beginning, which is long enough for every field.
 module _ (file : List ℕ) (long : 49202 < length file) where

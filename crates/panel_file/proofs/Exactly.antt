@@ -78,17 +78,6 @@ module _ (parts : ℕ) (file : List ℕ) (room : ℕ) where
       ∙ over kind size tt (holds_good (eqb (parts_of file) parts) (File (refused WrongParts Sizes 4)) (eq-eqb _ _ f.own_parts))
       ∙ holds_good (eqb room (places file)) GridLength (eq-eqb _ _ f.own_room)
 
-  -- The file has all samples that the grid has room for.
-  enough : Ok tt ≡ fill_answer parts file room → 7 + room * (parts * 4) ≤ length file
-  enough h =
-      let f = fits h in
-      let counted : 7 + places file * byte_at file 4 * 4 + 2 ≤ length file = (accepted file f.opened).name_counted in
-      rw (f.own_room, ← f.own_parts) (omega arith)
-
-  pub enough_by : (r : FillAnswer) → r ≡ fill_answer parts file room → IfOk r (λ _. 7 + room * (parts * 4) ≤ length file)
-  enough_by (Ok tt) h = enough h
-  enough_by (Err fault) h = tt
-
   filled : ((at : ℕ) → byte_at file at < 256) → Ok tt ≡ fill_answer parts file room → (grid : List (List ℤ)) → grid ≡ samples_of file parts room → FillsExactly parts file (Ok tt) grid
   filled bytes h grid e =
       let f = fits h in

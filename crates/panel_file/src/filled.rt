@@ -9,9 +9,11 @@ use crate::refusal::{FileFault, FillFault, Section};
 use crate::section::{PARTS, SAMPLES};
 use grid::sample::Sample;
 
-// The checks of the file, then of the grid: how many parts its kind has, and how many samples it has room for.
+// The checks of the file, then of the grid: how many parts its kind has, and how many samples it has room for. The file then has all
+// samples of the grid.
 fn admit(file: &[u8], parts: usize, room: usize) -> Result<(), FillFault>
-    ensures { result ≡ fill_answer parts file.now room }
+    ensures answer { result ≡ fill_answer parts file.now room }
+    ensures enough { OnOk result (7 + room * (parts * 4) ≤ length file.now) }
 {
     let opened = open(file)?;
     Section::Sizes.at(PARTS).require(
@@ -23,14 +25,6 @@ fn admit(file: &[u8], parts: usize, room: usize) -> Result<(), FillFault>
     } else {
         Err(FillFault::GridLength)
     }
-}
-
-// The same, and that the file then has all samples of the grid.
-fn admitted(file: &[u8], parts: usize, room: usize) -> Result<(), FillFault>
-    ensures answer { result ≡ fill_answer parts file.now room }
-    ensures enough { OnOk result (7 + room * (parts * 4) ≤ length file.now) }
-{
-    admit(file, parts, room)
 }
 
 // The sample of these bytes: every part of another sample is replaced.
@@ -64,7 +58,7 @@ fn filled<K: Sample>(file: &[u8], grid: &mut [K]) -> Result<(), FillFault>
     ensures after { map K.Sample.parts grid.new ≡ if_ok result (samples_of file.now K.Sample.PARTS (length grid.old)) (map K.Sample.parts grid.old) }
     ensures same { is_err result ≡ true → grid.new ≡ grid.old }
 {
-    admitted(file, K::PARTS, grid.len())?;
+    admit(file, K::PARTS, grid.len())?;
     store(file, grid);
     Ok(())
 }
