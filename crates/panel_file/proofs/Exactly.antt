@@ -1,6 +1,7 @@
 -- A file is accepted exactly when it encodes contents within the limits, and then these are answered and filled in.
 use Rattle.std.proofs.Common.{◌≡◌, ℕ, ◌+◌, ◌*◌, ◌<◌, ◌≤◌, eqb, List, length, ℤ, IfOk, Ok, Err, Result, sym, refl, ap, ◌∙◌, subst, ap₂, arith, rules}
 use Rattle.std.proofs.lemmas.Bool.{eqb-true, eq-eqb}
+use Rattle.std.proofs.lemmas.Bool.Decides.{nat_tests}
 use Rattle.std.specs.Result.{result_and}
 use Rattle.grid.specs.Checks.{check, if_ok}
 use Rattle.grid.proofs.Chains.{held, both_good, holds_good, over}
@@ -65,18 +66,10 @@ module _ (parts : ℕ) (file : List ℕ) (room : ℕ) where
   fits : Ok tt ≡ fill_answer parts file room → Fits parts file room
   fits h =
       let file_and_grid = both_good (of_file (open_answer file)) (result_and kind size) (sym h) in
-      let grid = both_good kind size file_and_grid.1 in
-      record {
-        opened = from_file (open_answer file) file_and_grid.0;
-        own_parts = eqb-true _ _ (held (eqb (parts_of file) parts) (File (refused WrongParts Sizes 4)) grid.0);
-        own_room = eqb-true _ _ (held (eqb room (places file)) GridLength grid.1);
-      }
+      record { opened = from_file (open_answer file) file_and_grid.0; own_parts = grind (arith, nat_tests); own_room = grind (arith, nat_tests) }
 
   admits : Fits parts file room → fill_answer parts file room ≡ Ok tt
-  admits f =
-      over (of_file (open_answer file)) (result_and kind size) tt (ap of_file f.opened)
-      ∙ over kind size tt (holds_good (eqb (parts_of file) parts) (File (refused WrongParts Sizes 4)) (eq-eqb _ _ f.own_parts))
-      ∙ holds_good (eqb room (places file)) GridLength (eq-eqb _ _ f.own_room)
+  admits f = over (of_file (open_answer file)) (result_and kind size) tt (ap of_file f.opened) ∙ grind (arith, nat_tests, f.own_parts, f.own_room)
 
   filled : ((at : ℕ) → byte_at file at < 256) → Ok tt ≡ fill_answer parts file room → (grid : List (List ℤ)) → grid ≡ samples_of file parts room → FillsExactly parts file (Ok tt) grid
   filled bytes h grid e =

@@ -1,6 +1,7 @@
 -- Fields: what a good one says, and a row of them as a loop walks it.
 use Rattle.std.proofs.Common.{◌≡◌, ℕ, zero, suc, ◌+◌, ◌-◌, ◌*◌, ◌<◌, ◌≤◌, Bool, true, leb, List, length, Ok, Err, sym, refl, ap, ◌∙◌, arith}
 use Rattle.std.proofs.lemmas.Bool.{le-leb, leb-true}
+use Rattle.std.proofs.lemmas.Bool.Decides.{nat_tests}
 use Rattle.std.specs.Result.{result_and}
 use Rattle.grid.specs.Checks.{check}
 use Rattle.grid.proofs.Chains.{held, both_good, over, holds_good}
@@ -16,14 +17,10 @@ module _ (file : List ℕ) (section : Section) (fault : FileFault) (width : ℕ)
   Good at = (at + width ≤ length file) × (holds at ≡ true)
 
   pub field_says : (at : ℕ) → field file section fault width holds at ≡ Ok tt → Good at
-  field_says at h =
-      let p = both_good (present file section width at) (check (holds at) (refused fault section at)) h in
-      (leb-true _ _ (held (leb (at + width) (length file)) (refused EndsEarly section at) p.0), held (holds at) (refused fault section at) p.1)
+  field_says at h = (grind (arith, nat_tests), grind (arith, nat_tests))
 
   pub field_good : (at : ℕ) → Good at → field file section fault width holds at ≡ Ok tt
-  field_good at good =
-      over (present file section width at) (check (holds at) (refused fault section at)) tt (holds_good (leb (at + width) (length file)) (refused EndsEarly section at) (le-leb _ _ good.0))
-      ∙ holds_good (holds at) (refused fault section at) good.1
+  field_good at good = grind (arith, nat_tests)
 
   -- The same of each field of a row.
   pub fields_say : (n at : ℕ) → fields file section fault width holds n at ≡ Ok tt → (k : ℕ) → k < n → Good (at + k * width)
