@@ -1,5 +1,5 @@
 -- The bytes of a field, as the code reads them.
-use Rattle.std.proofs.Common.{◌≡◌, ℕ, ◌+◌, ◌-◌, ◌<◌, ◌≤◌, cond, ltb, leb, negsuc, Option, Some, None, MatchOption, IsSome, Ok, Err, Result, List, length, get_or, take, drop, slice_range, zero, suc, ◌*◌, pos, w32, add-zero, zero-add, sym, refl, ap, ◌∙◌, ◌⊎◌, inl, inr, arith, rules}
+use Rattle.std.proofs.Common.{◌≡◌, ℕ, ◌+◌, ◌-◌, ◌<◌, ◌≤◌, cond, ltb, negsuc, List, length, get_or, take, drop, zero, suc, ◌*◌, pos, w32, add-zero, zero-add, sym, refl, ap, ◌∙◌, arith}
 use Rattle.std.proofs.lemmas.List.{take_all, length-drop, drop-drop, get_or-drop, get_or-take}
 use Rattle.std.proofs.lemmas.List.FromFn.{fill_by_all, get_or-map-range_with_len, length-map-range_with_len}
 use Rattle.std.specs.Int.{cast_signed, from_le_bytes}

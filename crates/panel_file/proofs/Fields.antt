@@ -1,15 +1,10 @@
 -- Fields: what a good one says, and a row of them as a loop walks it.
-use Rattle.std.proofs.Common.{◌≡◌, ℕ, zero, suc, ◌+◌, ◌-◌, ◌*◌, ◌<◌, ◌≤◌, Bool, true, leb, List, length, Ok, Err, sym, refl, ap, ◌∙◌, arith}
-use Rattle.std.proofs.lemmas.Bool.{le-leb, leb-true}
+use Rattle.std.proofs.Common.{◌≡◌, ℕ, zero, suc, ◌+◌, ◌*◌, ◌<◌, ◌≤◌, Bool, true, List, length, Ok, refl, ◌∙◌, arith}
 use Rattle.std.proofs.lemmas.Bool.Decides.{nat_tests}
-use Rattle.std.specs.Result.{result_and}
-use Rattle.grid.specs.Checks.{check}
-use Rattle.grid.proofs.Chains.{held, both_good, over, holds_good}
+use Rattle.grid.proofs.Chains.{both_good, over}
 use Rattle.panel_file.specs.declared.refusal.FileFault.{FileFault}
-use Rattle.panel_file.specs.declared.refusal.FileRefusal.{FileRefusal}
-use Rattle.panel_file.specs.declared.refusal.FileFault.TheVariants.{EndsEarly}
 use Rattle.panel_file.specs.declared.refusal.Section.{Section}
-use Rattle.panel_file.specs.Field.{Answer, refused, present, field, fields}
+use Rattle.panel_file.specs.Field.{field, fields}
 
 module _ (file : List ℕ) (section : Section) (fault : FileFault) (width : ℕ) (holds : ℕ → Bool) where
   -- A good field lies within the file and passes its test.

@@ -1,7 +1,7 @@
 -- A walk from field to field, as a loop makes it.
-use Rattle.std.proofs.Common.{◌≡◌, ℕ, zero, suc, ◌+◌, ◌-◌, ◌*◌, ◌<◌, ◌≤◌, Bool, List, Ok, Err, Result, sym, refl, ap, ◌∙◌, arith}
+use Rattle.std.proofs.Common.{◌≡◌, ℕ, zero, suc, ◌+◌, ◌-◌, ◌*◌, ◌<◌, Bool, List, Ok, Err, Result, sym, ap, ◌∙◌, arith}
 use Rattle.std.specs.Result.{result_and}
-use Rattle.grid.proofs.Chains.{refused_by, passed_by, over, stop}
+use Rattle.grid.proofs.Chains.{refused_by, passed_by}
 use Rattle.panel_file.specs.declared.field.Field.{Field}
 use Rattle.panel_file.specs.declared.refusal.FileRefusal.{FileRefusal}
 use Rattle.panel_file.specs.declared.refusal.FileFault.{FileFault}

@@ -1,5 +1,5 @@
 -- What `open` answers: the checks in the order of the file's bytes, then what the file says.
-use Rattle.std.specs.Prelude.{ℕ, ◌+◌, List, Ok, Err, Result}
+use Rattle.std.specs.Prelude.{ℕ, List, Ok, Err, Result}
 use Rattle.std.specs.Result.{result_and}
 use Rattle.grid.specs.declared.size.GridSize.{GridSize}
 use Rattle.panel_file.specs.declared.opened.PanelFile.{PanelFile}
@@ -29,10 +29,6 @@ open_answer file =
     result_and (sizes_answer file)
     (result_and (samples_answer file (size_of file) (parts_of file))
     (name_answer file (samples_end (size_of file) (parts_of file))))
-
--- Where the name begins.
-abbrev pub name_begin : List ℕ → ℕ
-name_begin file = samples_end (size_of file) (parts_of file) + 2
 
 -- What a file says of itself, if it passes them.
 abbrev pub summary : List ℕ → Summary
