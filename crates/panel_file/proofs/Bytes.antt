@@ -1,10 +1,9 @@
 -- The bytes of a field, as the code reads them.
-use Rattle.std.proofs.Common.{◌≡◌, ℕ, ◌+◌, ◌-◌, ◌<◌, ◌≤◌, cond, ltb, negsuc, List, length, get_or, take, drop, zero, suc, ◌*◌, pos, w32, add-zero, zero-add, sym, refl, ap, ◌∙◌, arith}
+use Rattle.std.proofs.Common.{[], ◌≡◌, ℕ, ◌+◌, ◌-◌, ◌<◌, ◌≤◌, List, length, get_or, take, drop, zero, suc, ◌*◌, pos, zero-add, sym, refl, ap, ◌∙◌, arith}
 use Rattle.std.proofs.lemmas.List.{take_all, length-drop, drop-drop, get_or-drop, get_or-take}
 use Rattle.std.proofs.lemmas.List.FromFn.{fill_by_all, get_or-map-range_with_len, length-map-range_with_len}
-use Rattle.std.specs.Int.{cast_signed, from_le_bytes}
 use Rattle.std.specs.Simd.{first_chunks}
-use Rattle.panel_file.specs.Field.{signed, part_at}
+use Rattle.panel_file.specs.Field.{part_at}
 use Rattle.panel_file.specs.Fill.{parts_at}
 
 -- A slice up to the end is all that is left.
@@ -23,17 +22,6 @@ chunk_at n (suc m) (suc k) xs d low =
     let on : suc k * n ≡ n + k * n = omega arith in
     chunk_at n m k (drop n xs) d (omega arith) ∙ ap (take n) (drop-drop (k * n) n xs ∙ ap (λ i. drop i xs) (sym on))
 
-signed_is : (n : ℕ) → cast_signed w32 n ≡ signed n
-signed_is n =
-    let e : 4294967296 - suc n ≡ 4294967295 - n = omega arith in
-    ap (λ k. cond (ltb n 2147483648) (pos n) (negsuc k)) e
-
--- Four bytes as a part.
-pub part_of_bytes : (file : List ℕ) (at : ℕ) → cast_signed w32 (from_le_bytes w32 (take 4 (drop at file))) ≡ part_at file at
-part_of_bytes file at =
-    signed_is (from_le_bytes w32 (take 4 (drop at file)))
-    ∙ rw (byte_of file at 4 0 (omega arith), byte_of file at 4 1 (omega arith), byte_of file at 4 2 (omega arith), byte_of file at 4 3 (omega arith), add-zero at) refl
-
 -- A part that lies within a part of the file is the file's.
 pub part_within : (file : List ℕ) (at w i : ℕ) → i + 4 ≤ w → part_at (take w (drop at file)) i ≡ part_at file (at + i)
 part_within file at w i low =
@@ -42,7 +30,13 @@ part_within file at w i low =
     let b3 : at + (i + 3) ≡ at + i + 3 = omega arith in
     rw (byte_of file at w i (omega arith), byte_of file at w (i + 1) (omega arith), byte_of file at w (i + 2) (omega arith), byte_of file at w (i + 3) (omega arith), b1, b2, b3) refl
 
--- So are so many.
+-- Each chunk of four bytes is a part.
+pub chunk_part : (m k : ℕ) (xs : List ℕ) → k < m → part_at (get_or (first_chunks 4 m xs) k []) 0 ≡ part_at xs (0 + k * 4)
+chunk_part m k xs low =
+    let here : k * 4 + 0 ≡ 0 + k * 4 = omega arith in
+    ap (λ bytes. part_at bytes 0) (chunk_at 4 m k xs [] low) ∙ part_within xs (k * 4) 4 0 (omega arith) ∙ ap (part_at xs) here
+
+-- A row of parts within a part of the file is the file's.
 pub parts_within : (file : List ℕ) (at w n : ℕ) → w ≡ n * 4 → parts_at (take w (drop at file)) n 0 ≡ parts_at file n at
 parts_within file at w n e =
     fill_by_all (λ k. part_at file (at + k * 4)) (parts_at (take w (drop at file)) n 0) n (pos 0) (length-map-range_with_len (λ k. part_at (take w (drop at file)) (0 + k * 4)) 0 n)

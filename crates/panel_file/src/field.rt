@@ -69,11 +69,11 @@ impl Field {
         Ok(u16::from_le_bytes(self.bytes(file)?))
     }
 
-    // A part: four bytes, low byte first.
+    // A field that is a part.
     pub(crate) fn part(self, file: &[u8]) -> Result<i32, FileRefusal>
         ensures { result ≡ result_and (present file.now self.section 4 self.at) (Ok (part_at file.now self.at)) }
     {
-        Ok(i32::from_le_bytes(self.bytes(file)?))
+        Ok(part_of(self.bytes(file)?))
     }
 
     // The field that stands so many bytes after this one.
@@ -86,6 +86,13 @@ impl Field {
             ..self
         }
     }
+}
+
+// What four bytes say as a part, low byte first.
+pub(crate) fn part_of(bytes: [u8; 4]) -> i32
+    ensures { result ≡ part_at bytes 0 }
+{
+    i32::from_le_bytes(bytes)
 }
 
 // So many fields one after the other; each is passed with the field that follows it, and the first that is refused is the answer.

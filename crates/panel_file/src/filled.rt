@@ -4,6 +4,7 @@ ghost use Rattle.grid.specs.Checks.{if_ok};
 ghost use Rattle.panel_file.specs.Fill.{fill_answer, parts_at, samples_of};
 ghost use Rattle.panel_file.specs.Laws.{FillsExactly};
 
+use crate::field::part_of;
 use crate::opened::open;
 use crate::refusal::{FileFault, FillFault, Section};
 use crate::section::{PARTS, SAMPLES};
@@ -35,7 +36,7 @@ fn sample_from<K: Sample>(bytes: &[u8], other: K) -> K
     let mut sample = other;
     let (parts, _) = bytes.as_chunks();
     for (k, part) in parts.iter().enumerate() {
-        sample = sample.replace_part(k + 1, i32::from_le_bytes(*part));
+        sample = sample.replace_part(k + 1, part_of(*part));
     }
     sample
 }

@@ -1,10 +1,9 @@
 -- One part more of a sample.
-use Rattle.std.proofs.Common.{◌≡◌, ◌+◌, ◌*◌, ◌/◌, [], length, get_or, pos, w32, sym, ap, ◌∙◌, zero-add, arith, rules}
+use Rattle.std.proofs.Common.{◌≡◌, ◌+◌, ◌*◌, ◌/◌, [], length, get_or, pos, ap, ◌∙◌, arith, rules}
 use Rattle.std.proofs.lemmas.List.FromFn.{fill_by_all}
-use Rattle.std.specs.Int.{cast_signed, from_le_bytes}
 use Rattle.std.specs.Simd.{first_chunks}
 use Rattle.panel_file.specs.Field.{part_at}
-use Rattle.panel_file.proofs.Bytes.{chunk_at, part_of_bytes}
+use Rattle.panel_file.proofs.Bytes.{chunk_part}
 use Rattle.panel_file.proofs.Stored.{part_more}
 use Rattle.panel_file.proofs.filled.sample_from.Goals as goal
 
@@ -15,11 +14,8 @@ loop-k-preserved g c =
     let long : length (g.K.Sample.parts c.loop-k.sample) ≡ g.K.Sample.PARTS = g.met.K.Sample.counted.2 c.loop-k.sample in
     let front : c.as_chunks.result.0.now ≡ first_chunks 4 (length bytes / 4) bytes = c.as_chunks.ensures.front in
     let front_len : length c.as_chunks.result.0.now ≡ length bytes / 4 = c.as_chunks.ensures.front_len in
-    let read =
-    c.from_le_bytes.ensures
-    ∙ ap (λ bs. cast_signed w32 (from_le_bytes w32 bs)) (ap (λ l. get_or l k []) front ∙ chunk_at 4 (length bytes / 4) k bytes [] (omega arith))
-    ∙ part_of_bytes bytes (k * 4) ∙ ap (part_at bytes) (sym (zero-add (k * 4))) in
-    part_more (λ j. part_at bytes (0 + j * 4)) (g.K.Sample.parts c.loop-k.sample) _ k c.from_le_bytes.result (search rules) c.replace_part-sample.ensures read (omega arith) c.loop-k.invariant
+    let read = c.part_of.ensures ∙ ap (λ l. part_at (get_or l k []) 0) front ∙ chunk_part (length bytes / 4) k bytes (omega arith) in
+    part_more (λ j. part_at bytes (0 + j * 4)) (g.K.Sample.parts c.loop-k.sample) _ k c.part_of.result (search rules) c.replace_part-sample.ensures read (omega arith) c.loop-k.invariant
 
 pub returns : goal.returns
 returns g c =
