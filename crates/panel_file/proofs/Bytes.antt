@@ -1,14 +1,10 @@
--- The bytes of a field, as the code reads them.
-use Rattle.std.proofs.Common.{[], ◌≡◌, ℕ, ◌+◌, ◌-◌, ◌<◌, ◌≤◌, List, length, get_or, take, drop, zero, suc, ◌*◌, pos, zero-add, sym, refl, ap, ◌∙◌, arith}
-use Rattle.std.proofs.lemmas.List.{take_all, length-drop, drop-drop, get_or-drop, get_or-take}
+-- The bytes of a sample, as the code reads them.
+use Rattle.std.proofs.Common.{[], ◌≡◌, ℕ, ◌+◌, ◌<◌, ◌≤◌, List, get_or, take, drop, zero, suc, ◌*◌, pos, zero-add, sym, refl, ap, ◌∙◌, arith}
+use Rattle.std.proofs.lemmas.List.{drop-drop, get_or-drop, get_or-take}
 use Rattle.std.proofs.lemmas.List.FromFn.{fill_by_all, get_or-map-range_with_len, length-map-range_with_len}
 use Rattle.std.specs.Simd.{first_chunks}
 use Rattle.panel_file.specs.Field.{part_at}
 use Rattle.panel_file.specs.Fill.{parts_at}
-
--- A slice up to the end is all that is left.
-pub tail : (file : List ℕ) (at : ℕ) → take (length file - at) (drop at file) ≡ drop at file
-tail file at = take_all (length file - at) (drop at file) (omega (arith, length-drop at file))
 
 -- A byte of a part of the file is the file's.
 pub byte_of : (file : List ℕ) (at n i : ℕ) → i < n → get_or (take n (drop at file)) i 0 ≡ get_or file (at + i) 0

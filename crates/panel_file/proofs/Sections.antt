@@ -1,10 +1,14 @@
 -- The three sections one after the other, as `checked` walks them.
-use Rattle.std.proofs.Common.{◌≡◌, ℕ, List, Ok, sym, ap, ap₂, ◌∙◌}
+use Rattle.std.proofs.Common.{◌≡◌, ℕ, ◌+◌, List, Result, Ok, sym, ap, ap₂, ◌∙◌}
 use Rattle.std.specs.Result.{result_and}
 use Rattle.grid.specs.declared.size.GridSize.{GridSize}
 use Rattle.grid.proofs.Chains.{passed_by, over}
-use Rattle.panel_file.specs.Field.{Answer}
-use Rattle.panel_file.specs.Layout.{sizes_answer, size_of, parts_of, samples_answer, samples_end, name_answer}
+use Rattle.panel_file.specs.declared.field.Field.{Field}
+use Rattle.panel_file.specs.declared.refusal.FileFault.TheVariants.{WrongNameByte}
+use Rattle.panel_file.specs.declared.refusal.FileRefusal.{FileRefusal}
+use Rattle.panel_file.specs.declared.refusal.Section.TheVariants.{Name}
+use Rattle.panel_file.specs.Field.{Answer, byte_at, count_at, present, fields}
+use Rattle.panel_file.specs.Layout.{printable, sizes_answer, size_of, parts_of, samples_answer, samples_end, name_answer}
 use Rattle.panel_file.specs.Open.{open_answer}
 
 -- The first two were passed: the third is the whole answer.
@@ -18,3 +22,16 @@ third file size parts at r first same_size same_parts walked is =
     ∙ over (samples size parts) (name_answer file (samples_end size parts)) tt second.0
     ∙ ap (name_answer file) (sym second.1)
     ∙ is
+
+module _ (file : List ℕ) where
+  -- the bytes of a name, as the code walks them
+  abbrev pub named : ℕ → Field → Result Field FileRefusal
+  named n here = result_and (fields file here.section WrongNameByte 1 (λ at. printable (byte_at file at)) n here.at) (Ok (record { section = here.section; at = here.at + n }))
+
+  -- They are those that stand behind their count.
+  pub name_walk : (at count n : ℕ) (first begin : Field) (r : Result Field FileRefusal) → first ≡ record { section = Name; at = at } →
+      Ok count ≡ result_and (present file first.section 2 first.at) (Ok (count_at file first.at)) → n ≡ count → begin ≡ record { section = first.section; at = first.at + 2 } →
+      r ≡ named n begin → r ≡ named (count_at file at) (record { section = Name; at = at + 2 })
+  name_walk at count n first begin r is counted same here walked =
+      let count_is = passed_by (present file first.section 2 first.at) (count_at file first.at) count counted in
+      walked ∙ ap₂ named (same ∙ count_is.1 ∙ ap (λ (f : Field). count_at file f.at) is) (here ∙ ap (λ (f : Field). record { section = f.section; at = f.at + 2 }) is)

@@ -2,7 +2,6 @@
 pub mod Refusal
 pub mod Kind
 pub mod Field
-pub mod Walk
 pub mod Layout
 pub mod Open
 pub mod Fill

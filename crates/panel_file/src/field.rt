@@ -3,7 +3,6 @@ ghost use Rattle.std.specs.Prelude.{◌≡◌, ◌+◌, ◌≤◌, ◌^◌, ◌<
 ghost use Rattle.std.specs.Result.{result_and};
 ghost use Rattle.grid.specs.Checks.{check};
 ghost use Rattle.panel_file.specs.Field.{byte_at, count_at, part_at, present, refused};
-ghost use Rattle.panel_file.specs.Walk.{Walks};
 
 use crate::refusal::{FileFault, FileRefusal, Section};
 
@@ -93,20 +92,4 @@ pub(crate) fn part_of(bytes: [u8; 4]) -> i32
     ensures { result ≡ part_at bytes 0 }
 {
     i32::from_le_bytes(bytes)
-}
-
-// So many fields one after the other; each is passed with the field that follows it, and the first that is refused is the answer.
-pub(crate) fn fields<F: Fn(Field) -> Result<Field, FileRefusal>>(
-    first: Field,
-    count: usize,
-    pass: F,
-) -> Result<Field, FileRefusal>
-    requires { F.IsAlwaysCallable pass }
-    ensures { Walks (F.post pass) count first result }
-{
-    let mut field = first;
-    for _ in 0..count {
-        field = pass(field)?;
-    }
-    Ok(field)
 }

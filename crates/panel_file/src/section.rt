@@ -1,11 +1,11 @@
 // The three sections of a panel file, checked field by field in the order of their bytes.
 ghost use Rattle.std.specs.Prelude.{◌≡◌, ◌+◌, ◌*◌, Ok, Err, MatchResult};
 ghost use Rattle.std.specs.Result.{result_and};
-ghost use Rattle.panel_file.specs.Field.{byte_at, part_at, field};
+ghost use Rattle.panel_file.specs.Field.{byte_at, part_at, field, fields};
 ghost use Rattle.panel_file.specs.Kind.{kind_parts};
 ghost use Rattle.panel_file.specs.Layout.{size_fits, part_fits, printable, sizes_answer, size_of, parts_of, samples_answer, samples_end, name_answer, name_at};
 
-use crate::field::{Field, fields};
+use crate::field::Field;
 use crate::kind::Kind;
 use crate::refusal::{FileFault, FileRefusal, Section};
 use grid::size::GridSize;
@@ -76,6 +76,14 @@ fn part_within(file: &[u8], here: Field) -> Result<Field, FileRefusal>
     Ok(here.after(4))
 }
 
+// So many parts, one after the other. (`name_bytes` is its like: one function for both would take a test `Fn([u8; N]) -> bool`, and
+// a bound that names a const parameter gets no proof.)
+fn parts_within(file: &[u8], first: Field, count: usize) -> Result<Field, FileRefusal>
+    ensures { result ≡ result_and (fields file.now first.section FileFault.PartBeyond 4 (λ at. part_fits (part_at file.now at)) count first.at) (Ok (record first { at = first.at + count * 4 })) }
+{
+    (0..count).try_fold(first, |here, _| part_within(file, here))
+}
+
 // The samples; the answer is the offset at which they end.
 pub(crate) fn samples(file: &[u8], shape: Shape) -> Result<usize, FileRefusal>
     ensures { result ≡ result_and (samples_answer file.now shape.size (kind_parts shape.kind)) (Ok (samples_end shape.size (kind_parts shape.kind))) }
@@ -86,11 +94,7 @@ pub(crate) fn samples(file: &[u8], shape: Shape) -> Result<usize, FileRefusal>
         usize::from(count) == shape.size.count(),
         FileFault::WrongCount,
     )?;
-    let end = fields(
-        first.after(2),
-        shape.parts(),
-        |part| part_within(file, part),
-    )?;
+    let end = parts_within(file, first.after(2), shape.parts())?;
     Ok(end.at)
 }
 
@@ -103,6 +107,13 @@ fn name_byte(file: &[u8], here: Field) -> Result<Field, FileRefusal>
     Ok(here.after(1))
 }
 
+// So many bytes of a name, one after the other.
+fn name_bytes(file: &[u8], first: Field, count: usize) -> Result<Field, FileRefusal>
+    ensures { result ≡ result_and (fields file.now first.section FileFault.WrongNameByte 1 (λ at. printable (byte_at file.now at)) count first.at) (Ok (record first { at = first.at + count })) }
+{
+    (0..count).try_fold(first, |here, _| name_byte(file, here))
+}
+
 // The name, whose count stands at `at`, and the end of the file after it.
 pub(crate) fn name(file: &[u8], at: usize) -> Result<&[u8], FileRefusal>
     ensures { MatchResult result
@@ -113,7 +124,7 @@ pub(crate) fn name(file: &[u8], at: usize) -> Result<&[u8], FileRefusal>
     let count = first.count(file)?;
     first.require(count <= 40, FileFault::WrongCount)?;
     let begin = first.after(2);
-    let end = fields(begin, usize::from(count), |byte| name_byte(file, byte))?;
+    let end = name_bytes(file, begin, usize::from(count))?;
     end.require(file.len() == end.at, FileFault::BytesLeftOver)?;
     Ok(&file[begin.at..])
 }
