@@ -7,22 +7,24 @@ mod source;
 
 use grid::kinds::{Height, Point};
 use job::show_panel;
-use panel_file::{PanelFile, open};
-use report::{show_file, show_file_refusal};
+use panel_file::{Kind, PanelFile, open};
+use report::show_file;
 use std::{env, io};
 
 // The panel of a file that was opened, by the kind of its samples.
 fn show_opened(rt: &HostRuntime, bytes: &[u8], file: &PanelFile) -> anyhow::Result<()> {
     show_file(rt, file)?;
-    if file.parts == 1 {
-        return show_panel(rt, bytes, file.size, Height(0));
+    match file.kind {
+        Kind::Heights => show_panel(rt, bytes, file.size, Height(0)),
+        Kind::Points => {
+            let origin = Point {
+                across: 0,
+                along: 0,
+                up: 0,
+            };
+            show_panel(rt, bytes, file.size, origin)
+        }
     }
-    let origin = Point {
-        across: 0,
-        along: 0,
-        up: 0,
-    };
-    show_panel(rt, bytes, file.size, origin)
 }
 
 // One file under its name.
@@ -38,7 +40,7 @@ fn show_source(rt: &HostRuntime, name: &str, bytes: io::Result<Vec<u8>>) -> anyh
     match open(bytes.as_slice()) {
         Ok(file) => show_opened(rt, bytes.as_slice(), &file),
         Err(refusal) => {
-            show_file_refusal(rt, refusal)?;
+            println!(rt; "{refusal}: not a panel file")?;
             Ok(())
         }
     }

@@ -1,25 +1,20 @@
 // What is shown: a file, a sample, a reading, a refusal.
 use grid::sample::Sample;
+use grid::size::GridSize;
 use panel_fault::PanelFault;
-use panel_file::{FileRefusal, PanelFile};
+use panel_file::{Kind, PanelFile};
 use std::io;
 
 // What a file says of itself.
 pub(crate) fn show_file(rt: &HostRuntime, file: &PanelFile) -> anyhow::Result<()> {
-    let rows = file.size.rows;
-    let columns = file.size.columns;
-    let kind = if file.parts == 1 { "heights" } else { "points" };
+    let GridSize { rows, columns } = file.size;
+    let kind = match file.kind {
+        Kind::Heights => "heights",
+        Kind::Points => "points",
+    };
     let name = String::from_utf8_lossy(rt.alloc(), file.name)?;
     println!(rt; "{rows} by {columns} {kind}, \"{name}\"")?;
     Ok(())
-}
-
-// Why a file was not opened.
-pub(crate) fn show_file_refusal(rt: &HostRuntime, refusal: FileRefusal) -> io::Result<()> {
-    let number = refusal.fault.number();
-    let section = refusal.section.number();
-    let offset = refusal.offset;
-    println!(rt; "refused {number}, section {section}, byte {offset}: not a panel file")
 }
 
 // The parts of a sample.

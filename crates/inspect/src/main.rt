@@ -3,30 +3,10 @@
 
 use grid::kinds::{Height, Point};
 use grid::sample::Sample;
-use panel_file::{FileFault, FileRefusal, FillFault, PanelFile, enough, fill, open};
+use grid::size::GridSize;
+use panel_file::{FillFault, PanelFile, enough, fill, open};
 use std::io::Read;
 use std::{env, fs, io};
-
-// What a carver can do about a fault of the file.
-fn advice(fault: FileFault) -> &'static str {
-    match fault {
-        FileFault::EndsEarly => "the file ends before this field is whole",
-        FileFault::WrongCount =>
-            "this count does not fit: 3 sizes, rows times columns samples, a name of at most 40",
-        FileFault::WrongParts => "a sample has one part, a height, or three, a point",
-        FileFault::WrongSize => "rows and columns are 2 to 64 each",
-        FileFault::PartBeyond => "this part lies beyond 100,000 micrometres either way",
-        FileFault::BytesLeftOver => "the panel is complete, and bytes are left over",
-        FileFault::WrongNameByte => "a name has printable characters of ASCII only",
-    }
-}
-
-fn print_refusal(rt: &HostRuntime, refusal: FileRefusal, advice: &str) -> io::Result<()> {
-    let number = refusal.fault.number();
-    let section = refusal.section.number();
-    let offset = refusal.offset;
-    println!(rt; "refused {number}, section {section}, byte {offset}: {advice}")
-}
 
 // Whether a controller that carves from samples like `blank` loads the file.
 fn print_load<K: Sample + Clone>(
@@ -40,13 +20,10 @@ fn print_load<K: Sample + Clone>(
     let Ok(mut grid) = vec![in rt.alloc(); blank; file.size.count()] else {
         return println!(rt; "no memory to try");
     };
-    let loaded = fill(bytes, grid.as_mut_slice());
-    match loaded {
+    match fill(bytes, grid.as_mut_slice()) {
         Ok(()) => println!(rt; "loads"),
-        Err(FillFault::File(refusal)) => print_refusal(
-            rt,
-            refusal,
-            "this controller carves from samples with another number of parts",
+        Err(FillFault::File(refusal)) => println!(rt;
+            "{refusal}: this controller carves from samples with another number of parts"
         ),
         Err(FillFault::GridLength) => println!(rt; "refused 41: the grid has another length"),
     }
@@ -56,13 +33,12 @@ fn print_file(rt: &HostRuntime, bytes: &[u8]) -> io::Result<()> {
     let file = match open(bytes) {
         Ok(file) => file,
         Err(refusal) => {
-            print!(rt; "  ")?;
-            return print_refusal(rt, refusal, advice(refusal.fault));
+            let advice = refusal.fault;
+            return println!(rt; "  {refusal}: {advice}");
         }
     };
-    let rows = file.size.rows;
-    let columns = file.size.columns;
-    let parts = file.parts;
+    let GridSize { rows, columns } = file.size;
+    let parts = file.kind.parts();
     let Ok(name) = String::from_utf8_lossy(rt.alloc(), file.name) else {
         return println!(rt; "  no memory to show its name");
     };
@@ -96,15 +72,12 @@ fn inspect(rt: &HostRuntime, name: &str, bytes: io::Result<Vec<u8>>) -> io::Resu
 }
 
 fn main(rt: HostRuntime) -> io::Result<()> {
-    let mut arguments = env::args(&rt)?;
-    let _program = arguments.next();
-    let mut files = 0u64;
-    for path in arguments {
-        inspect(&rt, path.as_str(), read_path(&rt, path.as_str()))?;
-        files = files.saturating_add(1);
+    let mut paths = env::args(&rt)?.skip(1).peekable();
+    if paths.peek().is_none() {
+        return inspect(&rt, "standard input", read_input(&rt, rt.stdin()));
     }
-    if files == 0 {
-        inspect(&rt, "standard input", read_input(&rt, rt.stdin()))?;
+    for path in paths {
+        inspect(&rt, path.as_str(), read_path(&rt, path.as_str()))?;
     }
     Ok(())
 }

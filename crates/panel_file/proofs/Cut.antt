@@ -2,10 +2,10 @@
 use Rattle.std.proofs.Common.{◌≡◌, ℕ, zero, suc, ◌+◌, ◌*◌, ◌<◌, ◌≤◌, Bool, eqb, leb, ◌⊎◌, List, length, take, Ok, Err, Result, sym, refl, ap, ◌∙◌, subst, ap₂, inl, inr, mul-le-mul, arith}
 use Rattle.std.proofs.lemmas.List.{get_or-take, length-take-le, take_all}
 use Rattle.std.proofs.lemmas.Bool.{cases_lt, le-leb, leb-true, ne_eqb}
+use Rattle.std.proofs.lemmas.Bool.Decides.{nat_tests}
 use Rattle.std.specs.Result.{result_and}
 use Rattle.grid.specs.Checks.{check}
 use Rattle.grid.specs.declared.size.GridSize.{GridSize}
-use Rattle.grid.proofs.Chains.{both_good}
 use Rattle.panel_file.specs.declared.refusal.FileFault.{FileFault}
 use Rattle.panel_file.specs.declared.refusal.FileFault.TheVariants.{WrongCount, WrongParts, WrongSize, PartBeyond, BytesLeftOver, WrongNameByte, EndsEarly}
 use Rattle.panel_file.specs.declared.refusal.FileRefusal.{FileRefusal}
@@ -17,7 +17,7 @@ use Rattle.panel_file.specs.Layout.{size_fits, parts_fit, part_fits, printable, 
 use Rattle.panel_file.specs.Open.{open_answer, summary, open_result}
 use Rattle.panel_file.specs.Fill.{FillAnswer, of_file, fill_answer}
 use Rattle.panel_file.specs.Laws.{Enough}
-use Rattle.panel_file.proofs.Accepted.{accepted, sized, one_or_three}
+use Rattle.panel_file.proofs.Accepted.{accepted}
 use Rattle.panel_file.proofs.Fields.{field_says}
 use Rattle.panel_file.proofs.Numbers.{word}
 
@@ -25,10 +25,6 @@ use Rattle.panel_file.proofs.Numbers.{word}
 then_alike : {B : Type 0} (a : Answer) {x y : Result B FileRefusal} → (a ≡ Ok tt → x ≡ y) → result_and a x ≡ result_and a y
 then_alike (Ok _) h = h refl
 then_alike (Err e) h = refl
-
-at_most_three : (n : ℕ) → (n ≡ 1) ⊎ (n ≡ 3) → n ≤ 3
-at_most_three n (inl e) = omega arith
-at_most_three n (inr e) = omega arith
 
 -- A file and its beginning, which is long enough for every field.
 module _ (file : List ℕ) (long : 49202 < length file) where
@@ -74,15 +70,7 @@ module _ (file : List ℕ) (long : 49202 < length file) where
     parts : byte_at file 4 ≤ 3
 
   small : sizes_answer file ≡ Ok tt → Small
-  small h =
-      let first = both_good (field file Sizes WrongCount 2 (λ at. eqb (count_at file at) 3) 0) _ h in
-      let second = both_good (field file Sizes WrongSize 1 (λ at. size_fits (byte_at file at)) 2) _ first.1 in
-      let third = both_good (field file Sizes WrongSize 1 (λ at. size_fits (byte_at file at)) 3) _ second.1 in
-      record {
-        rows = (sized (byte_at file 2) (field_says file Sizes WrongSize 1 (λ at. size_fits (byte_at file at)) 2 second.0).1).1;
-        columns = (sized (byte_at file 3) (field_says file Sizes WrongSize 1 (λ at. size_fits (byte_at file at)) 3 third.0).1).1;
-        parts = at_most_three (byte_at file 4) (one_or_three (byte_at file 4) (field_says file Sizes WrongParts 1 (λ at. parts_fit (byte_at file at)) 4 third.1).1);
-      }
+  small h = record { rows = grind (arith, nat_tests); columns = grind (arith, nat_tests); parts = grind (arith, nat_tests) }
 
   abbrev size : GridSize
   size = size_of file
@@ -137,7 +125,7 @@ module _ (file : List ℕ) (long : 49202 < length file) where
   not_good : open_answer file ≡ Ok tt → ⊥
   not_good h =
       let a = accepted file h in
-      let s : Small = record { rows = a.rows_fit.1; columns = a.columns_fit.1; parts = at_most_three (byte_at file 4) a.parts_fit } in
+      let s : Small = record { rows = a.rows_fit.1; columns = a.columns_fit.1; parts = grind (arith, a.parts_fit) } in
       omega (arith, ends_low s, a.ended, a.name_short)
 
   longer_opens : open_result front ≡ open_result file

@@ -1,9 +1,9 @@
 -- A file is accepted exactly when it encodes contents within the limits, and then these are answered and filled in.
-use Rattle.std.proofs.Common.{◌≡◌, ℕ, ◌+◌, ◌*◌, ◌<◌, ◌≤◌, eqb, List, length, ℤ, IfOk, Ok, Err, Result, sym, refl, ap, ◌∙◌, subst, ap₂, arith, rules}
-use Rattle.std.proofs.lemmas.Bool.{eqb-true, eq-eqb}
+use Rattle.std.proofs.Common.{◌≡◌, ℕ, ◌*◌, ◌<◌, eqb, List, length, ℤ, Ok, Err, Result, sym, refl, ap, ◌∙◌, subst, ap₂, arith, rules}
+use Rattle.std.proofs.lemmas.Bool.Decides.{nat_tests}
 use Rattle.std.specs.Result.{result_and}
 use Rattle.grid.specs.Checks.{check, if_ok}
-use Rattle.grid.proofs.Chains.{held, both_good, holds_good, over}
+use Rattle.grid.proofs.Chains.{held, both_good, over}
 use Rattle.panel_file.specs.declared.refusal.FileFault.TheVariants.{WrongParts}
 use Rattle.panel_file.specs.declared.refusal.FileRefusal.{FileRefusal}
 use Rattle.panel_file.specs.declared.refusal.FillFault.{FillFault}
@@ -65,29 +65,10 @@ module _ (parts : ℕ) (file : List ℕ) (room : ℕ) where
   fits : Ok tt ≡ fill_answer parts file room → Fits parts file room
   fits h =
       let file_and_grid = both_good (of_file (open_answer file)) (result_and kind size) (sym h) in
-      let grid = both_good kind size file_and_grid.1 in
-      record {
-        opened = from_file (open_answer file) file_and_grid.0;
-        own_parts = eqb-true _ _ (held (eqb (parts_of file) parts) (File (refused WrongParts Sizes 4)) grid.0);
-        own_room = eqb-true _ _ (held (eqb room (places file)) GridLength grid.1);
-      }
+      record { opened = from_file (open_answer file) file_and_grid.0; own_parts = grind (arith, nat_tests); own_room = grind (arith, nat_tests) }
 
   admits : Fits parts file room → fill_answer parts file room ≡ Ok tt
-  admits f =
-      over (of_file (open_answer file)) (result_and kind size) tt (ap of_file f.opened)
-      ∙ over kind size tt (holds_good (eqb (parts_of file) parts) (File (refused WrongParts Sizes 4)) (eq-eqb _ _ f.own_parts))
-      ∙ holds_good (eqb room (places file)) GridLength (eq-eqb _ _ f.own_room)
-
-  -- The file has all samples that the grid has room for.
-  enough : Ok tt ≡ fill_answer parts file room → 7 + room * (parts * 4) ≤ length file
-  enough h =
-      let f = fits h in
-      let counted : 7 + places file * byte_at file 4 * 4 + 2 ≤ length file = (accepted file f.opened).name_counted in
-      rw (f.own_room, ← f.own_parts) (omega arith)
-
-  pub enough_by : (r : FillAnswer) → r ≡ fill_answer parts file room → IfOk r (λ _. 7 + room * (parts * 4) ≤ length file)
-  enough_by (Ok tt) h = enough h
-  enough_by (Err fault) h = tt
+  admits f = over (of_file (open_answer file)) (result_and kind size) tt (ap of_file f.opened) ∙ grind (arith, nat_tests, f.own_parts, f.own_room)
 
   filled : ((at : ℕ) → byte_at file at < 256) → Ok tt ≡ fill_answer parts file room → (grid : List (List ℤ)) → grid ≡ samples_of file parts room → FillsExactly parts file (Ok tt) grid
   filled bytes h grid e =

@@ -1,47 +1,21 @@
 -- Fields: what a good one says, and a row of them as a loop walks it.
-use Rattle.std.proofs.Common.{◌≡◌, ℕ, zero, suc, ◌+◌, ◌-◌, ◌*◌, ◌<◌, ◌≤◌, Bool, true, leb, List, length, Ok, Err, sym, refl, ap, ◌∙◌, arith}
-use Rattle.std.proofs.lemmas.Bool.{le-leb, leb-true}
-use Rattle.std.specs.Result.{result_and}
-use Rattle.grid.specs.Checks.{check}
-use Rattle.grid.proofs.Chains.{held, both_good, over, holds_good}
+use Rattle.std.proofs.Common.{◌≡◌, ℕ, zero, suc, ◌+◌, ◌*◌, ◌<◌, ◌≤◌, Bool, true, List, length, Ok, refl, ◌∙◌, arith}
+use Rattle.std.proofs.lemmas.Bool.Decides.{nat_tests}
+use Rattle.grid.proofs.Chains.{both_good, over}
 use Rattle.panel_file.specs.declared.refusal.FileFault.{FileFault}
-use Rattle.panel_file.specs.declared.refusal.FileRefusal.{FileRefusal}
-use Rattle.panel_file.specs.declared.refusal.FileFault.TheVariants.{EndsEarly}
 use Rattle.panel_file.specs.declared.refusal.Section.{Section}
-use Rattle.panel_file.specs.Field.{Answer, refused, present, field, fields}
+use Rattle.panel_file.specs.Field.{field, fields}
 
 module _ (file : List ℕ) (section : Section) (fault : FileFault) (width : ℕ) (holds : ℕ → Bool) where
-  one_more : (n k at : ℕ) → k < n → fields file section fault width holds (n - k) at ≡ result_and (field file section fault width holds at) (fields file section fault width holds (n - (k + 1)) (at + width))
-  one_more n k at h = let e : n - k ≡ suc (n - (k + 1)) = omega arith in rw e refl
-
-  -- the field passes: what is left answers as the whole row does
-  pub fields_more : (n k at next : ℕ) (whole : Answer) → k < n → next ≡ at + width → fields file section fault width holds (n - k) at ≡ whole →
-      field file section fault width holds at ≡ Ok tt → fields file section fault width holds (n - (k + 1)) next ≡ whole
-  fields_more n k at next whole h e left passed =
-      ap (fields file section fault width holds (n - (k + 1))) e
-      ∙ sym (one_more n k at h ∙ ap (λ a. result_and a (fields file section fault width holds (n - (k + 1)) (at + width))) passed)
-      ∙ left
-
-  -- the field is refused: so is the whole row
-  pub fields_stop : (n k at : ℕ) (whole : Answer) (refusal : FileRefusal) → k < n → fields file section fault width holds (n - k) at ≡ whole →
-      field file section fault width holds at ≡ Err refusal → Err refusal ≡ whole
-  fields_stop n k at whole refusal h left failed =
-      sym (one_more n k at h ∙ ap (λ a. result_and a (fields file section fault width holds (n - (k + 1)) (at + width))) failed)
-      ∙ left
-
   -- A good field lies within the file and passes its test.
   abbrev pub Good : ℕ → Type 0
   Good at = (at + width ≤ length file) × (holds at ≡ true)
 
   pub field_says : (at : ℕ) → field file section fault width holds at ≡ Ok tt → Good at
-  field_says at h =
-      let p = both_good (present file section width at) (check (holds at) (refused fault section at)) h in
-      (leb-true _ _ (held (leb (at + width) (length file)) (refused EndsEarly section at) p.0), held (holds at) (refused fault section at) p.1)
+  field_says at h = (grind (arith, nat_tests), grind (arith, nat_tests))
 
   pub field_good : (at : ℕ) → Good at → field file section fault width holds at ≡ Ok tt
-  field_good at good =
-      over (present file section width at) (check (holds at) (refused fault section at)) tt (holds_good (leb (at + width) (length file)) (refused EndsEarly section at) (le-leb _ _ good.0))
-      ∙ holds_good (holds at) (refused fault section at) good.1
+  field_good at good = grind (arith, nat_tests)
 
   -- The same of each field of a row.
   pub fields_say : (n at : ℕ) → fields file section fault width holds n at ≡ Ok tt → (k : ℕ) → k < n → Good (at + k * width)

@@ -1,4 +1,6 @@
 -- Lemmas about the fields of a file and about what a file encodes.
+pub mod Walk
+pub mod Bytes
 pub mod Fields
 pub mod Sections
 pub mod Blocks

@@ -1,6 +1,6 @@
 -- Counts and parts, to their bytes and back.
-use Rattle.std.proofs.Common.{◌≡◌, ℕ, ◌+◌, ◌-◌, ◌*◌, ◌/◌, ◌%◌, ◌<◌, ◌≤◌, ◌⊎◌, List, [], ◌∷◌, ℤ, pos, negsuc, nat_abs, refl, ap, ◌∙◌, ap₂, inl, inr, arith}
-use Rattle.std.proofs.lemmas.Bool.{lt-ltb, le-ltb, cases_lt}
+use Rattle.std.proofs.Common.{◌≡◌, ℕ, ◌+◌, ◌*◌, ◌/◌, ◌%◌, ◌<◌, ◌≤◌, List, [], ◌∷◌, ℤ, pos, negsuc, nat_abs, ap, ◌∙◌, ap₂, arith}
+use Rattle.std.proofs.lemmas.Bool.Decides.{nat_tests}
 use Rattle.panel_file.specs.Field.{signed}
 use Rattle.panel_file.specs.Format.{count_bytes, unsigned, part_bytes}
 
@@ -24,11 +24,8 @@ word_back n h =
     rw (second, third) (omega arith)
 
 pub signed_unsigned : (v : ℤ) → nat_abs v ≤ 100000 → signed (unsigned v) ≡ v
-signed_unsigned (pos n) h = rw (lt-ltb n 2147483648 (omega arith)) refl
-signed_unsigned (negsuc n) h =
-    let above : 2147483648 ≤ 4294967295 - n = omega arith in
-    let back : 4294967295 - (4294967295 - n) ≡ n = omega arith in
-    rw (le-ltb (4294967295 - n) 2147483648 above, back) refl
+signed_unsigned (pos n) h = grind (arith, nat_tests)
+signed_unsigned (negsuc n) h = grind (arith, nat_tests)
 
 unsigned_low : (v : ℤ) → nat_abs v ≤ 100000 → unsigned v < 4294967296
 unsigned_low (pos n) h = omega arith
@@ -38,11 +35,7 @@ pub part_back : (v : ℤ) → nat_abs v ≤ 100000 → signed (word (unsigned v 
 part_back v h = ap signed (word_back (unsigned v) (unsigned_low v h)) ∙ signed_unsigned v h
 
 pub unsigned_signed : (n : ℕ) → n < 4294967296 → unsigned (signed n) ≡ n
-unsigned_signed n h = go (cases_lt n 2147483648)
-  where
-    go : (n < 2147483648) ⊎ (2147483648 ≤ n) → unsigned (signed n) ≡ n
-    go (inl low) = rw (lt-ltb n 2147483648 low) refl
-    go (inr high) = rw (le-ltb n 2147483648 high) (omega arith)
+unsigned_signed n h = grind (arith, nat_tests)
 
 pub part_again : (a b c d : ℕ) → a < 256 → b < 256 → c < 256 → d < 256 → part_bytes (signed (word a b c d)) ≡ a ∷ b ∷ c ∷ d ∷ []
 part_again a b c d ha hb hc hd =

@@ -1,6 +1,6 @@
 -- The fields of a panel file: where they stand, what they say, and which are refused.
 -- An offset counts bytes from 0 at the start of the file; numbers of several bytes have the low byte first.
-use Rattle.std.specs.Prelude.{ℕ, zero, suc, ◌+◌, ◌-◌, ◌*◌, Bool, cond, List, length, ℤ, pos, negsuc, Ok, Result, nat_le, nat_lt, slice_index}
+use Rattle.std.specs.Prelude.{ℕ, zero, suc, ◌+◌, ◌-◌, ◌*◌, Bool, if◌then◌else◌, List, length, ℤ, pos, negsuc, Ok, Result, nat_le, nat_lt, slice_index}
 use Rattle.std.specs.Result.{result_and}
 use Rattle.grid.specs.Checks.{check}
 use Rattle.panel_file.specs.declared.refusal.FileFault.{FileFault}
@@ -26,7 +26,7 @@ count_at file at = byte_at file at + byte_at file (at + 1) * 256
 
 -- What 32 bits mean as a signed number.
 abbrev pub signed : ℕ → ℤ
-signed n = cond (nat_lt n 2147483648) (pos n) (negsuc (4294967295 - n))
+signed n = if nat_lt n 2147483648 then pos n else negsuc (4294967295 - n)
 
 -- A part: four bytes, signed.
 abbrev pub part_at : List ℕ → ℕ → ℤ

@@ -1,5 +1,6 @@
 -- The definitions that the contracts of this crate cite.
 pub mod Refusal
+pub mod Kind
 pub mod Field
 pub mod Layout
 pub mod Open

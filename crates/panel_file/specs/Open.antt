@@ -1,9 +1,10 @@
 -- What `open` answers: the checks in the order of the file's bytes, then what the file says.
-use Rattle.std.specs.Prelude.{ℕ, ◌+◌, List, Ok, Err, Result}
+use Rattle.std.specs.Prelude.{ℕ, List, Ok, Err, Result}
 use Rattle.std.specs.Result.{result_and}
 use Rattle.grid.specs.declared.size.GridSize.{GridSize}
 use Rattle.panel_file.specs.declared.opened.PanelFile.{PanelFile}
 use Rattle.panel_file.specs.declared.refusal.FileRefusal.{FileRefusal}
+use Rattle.panel_file.specs.Kind.{kind_parts}
 use Rattle.panel_file.specs.Field.{Answer}
 use Rattle.panel_file.specs.Layout.{sizes_answer, size_of, parts_of, samples_answer, samples_end, name_answer, name_at}
 
@@ -13,9 +14,9 @@ pub record Summary : Type 0 where
   pub parts : ℕ
   pub name : List ℕ
 
--- An opened file, with the bytes of its name in place of where they stand.
+-- An opened file, with the number of parts of its kind, and the bytes of its name in place of where they stand.
 abbrev pub said_by : PanelFile → Summary
-said_by opened = record { size = opened.size; parts = opened.parts; name = opened.name.now }
+said_by opened = record { size = opened.size; parts = kind_parts opened.kind; name = opened.name.now }
 
 -- The same of an answer; a refusal is as it is.
 abbrev pub shown : Result PanelFile FileRefusal → Result Summary FileRefusal
@@ -28,10 +29,6 @@ open_answer file =
     result_and (sizes_answer file)
     (result_and (samples_answer file (size_of file) (parts_of file))
     (name_answer file (samples_end (size_of file) (parts_of file))))
-
--- Where the name begins.
-abbrev pub name_begin : List ℕ → ℕ
-name_begin file = samples_end (size_of file) (parts_of file) + 2
 
 -- What a file says of itself, if it passes them.
 abbrev pub summary : List ℕ → Summary

@@ -1,66 +1,95 @@
 // The fields of a panel file, each read only where the file has all of its bytes.
-ghost use Rattle.std.specs.Prelude.{◌≡◌, ◌+◌, ◌*◌, ◌^◌, ◌<◌, ◌≤◌, length, Ok, Err};
+ghost use Rattle.std.specs.Prelude.{◌≡◌, ◌+◌, ◌≤◌, ◌^◌, ◌<◌, take, drop, length, Ok};
 ghost use Rattle.std.specs.Result.{result_and};
 ghost use Rattle.grid.specs.Checks.{check};
 ghost use Rattle.panel_file.specs.Field.{byte_at, count_at, part_at, present, refused};
 
 use crate::refusal::{FileFault, FileRefusal, Section};
 
-// The field at `at` is refused unless `holds`.
-pub(crate) fn require(
-    holds: bool,
-    fault: FileFault,
-    section: Section,
-    at: usize,
-) -> Result<(), FileRefusal>
-    ensures { result ≡ check holds (refused fault section at) }
-{
-    if holds {
-        return Ok(());
+// Where a field stands: its section, and the offset of its first byte.
+#[derive(Clone, Copy)]
+pub(crate) struct Field {
+    pub(crate) section: Section,
+    pub(crate) at: usize,
+}
+
+impl Section {
+    // The field of the section at an offset.
+    pub(crate) fn at(self, at: usize) -> Field
+        ensures { result ≡ record { section = self; at = at } }
+    {
+        Field { section: self, at }
     }
-    Err(FileRefusal {
-        fault,
-        section,
-        offset: at,
-    })
 }
 
-// A field of one byte.
-pub(crate) fn byte_at(file: &[u8], section: Section, at: usize) -> Result<u8, FileRefusal>
-    requires { at < 2 ^ 32 }
-    ensures { result ≡ result_and (present file.now section 1 at) (Ok (byte_at file.now at)) }
-{
-    require(at + 1 <= file.len(), FileFault::EndsEarly, section, at)?;
-    Ok(file[at])
+impl Field {
+    pub(crate) fn refused(self, fault: FileFault) -> FileRefusal
+        ensures { result ≡ refused fault self.section self.at }
+    {
+        FileRefusal {
+            fault,
+            section: self.section,
+            offset: self.at,
+        }
+    }
+
+    // The field is refused unless `holds`.
+    pub(crate) fn require(self, holds: bool, fault: FileFault) -> Result<(), FileRefusal>
+        ensures { result ≡ check holds (refused fault self.section self.at) }
+    {
+        if holds {
+            Ok(())
+        } else {
+            Err(self.refused(fault))
+        }
+    }
+
+    // The N bytes of the field.
+    fn bytes<const N: usize>(self, file: &[u8]) -> Result<[u8; N], FileRefusal>
+        ensures { result ≡ result_and (present file.now self.section N self.at) (Ok (take N (drop self.at file.now))) }
+    {
+        let early = self.refused(FileFault::EndsEarly);
+        let rest = file.get(self.at..).ok_or(early)?;
+        rest.first_chunk().copied().ok_or(early)
+    }
+
+    // A field of one byte.
+    pub(crate) fn byte(self, file: &[u8]) -> Result<u8, FileRefusal>
+        ensures { result ≡ result_and (present file.now self.section 1 self.at) (Ok (byte_at file.now self.at)) }
+    {
+        let [byte] = self.bytes::<1>(file)?;
+        Ok(byte)
+    }
+
+    // A count: two bytes, low byte first.
+    pub(crate) fn count(self, file: &[u8]) -> Result<u16, FileRefusal>
+        ensures { result ≡ result_and (present file.now self.section 2 self.at) (Ok (count_at file.now self.at)) }
+    {
+        Ok(u16::from_le_bytes(self.bytes(file)?))
+    }
+
+    // A field that is a part.
+    pub(crate) fn part(self, file: &[u8]) -> Result<i32, FileRefusal>
+        ensures { result ≡ result_and (present file.now self.section 4 self.at) (Ok (part_at file.now self.at)) }
+    {
+        Ok(part_of(self.bytes(file)?))
+    }
+
+    // The field that stands so many bytes after this one.
+    pub(crate) fn after(self, width: usize) -> Field
+        requires { self.at + width < 2 ^ 64 }
+        ensures { result ≡ record { section = self.section; at = self.at + width } }
+    {
+        Field {
+            at: self.at + width,
+            ..self
+        }
+    }
 }
 
-// A count: two bytes, low byte first.
-pub(crate) fn count_at(file: &[u8], section: Section, at: usize) -> Result<u16, FileRefusal>
-    requires { at < 2 ^ 32 }
-    ensures { result ≡ result_and (present file.now section 2 at) (Ok (count_at file.now at)) }
+// What four bytes say as a part, low byte first.
+pub(crate) fn part_of(bytes: [u8; 4]) -> i32
+    ensures { result ≡ part_at bytes 0 }
 {
-    require(at + 2 <= file.len(), FileFault::EndsEarly, section, at)?;
-    Ok(u16::from_le_bytes([file[at], file[at + 1]]))
-}
-
-// A part that the file has: four bytes, low byte first.
-pub(crate) fn part(file: &[u8], at: usize) -> i32
-    requires { at + 4 ≤ length file.now }
-    ensures { result ≡ part_at file.now at }
-{
-    i32::from_le_bytes([file[at], file[at + 1], file[at + 2], file[at + 3]])
-}
-
-// A field that is a part.
-pub(crate) fn part_at(file: &[u8], at: usize) -> Result<i32, FileRefusal>
-    requires { at < 2 ^ 32 }
-    ensures { result ≡ result_and (present file.now Section.Samples 4 at) (Ok (part_at file.now at)) }
-{
-    require(
-        at + 4 <= file.len(),
-        FileFault::EndsEarly,
-        Section::Samples,
-        at,
-    )?;
-    Ok(part(file, at))
+    i32::from_le_bytes(bytes)
 }

@@ -4,45 +4,39 @@ ghost use Rattle.grid.specs.Checks.{if_ok};
 ghost use Rattle.panel_file.specs.Fill.{fill_answer, parts_at, samples_of};
 ghost use Rattle.panel_file.specs.Laws.{FillsExactly};
 
-use crate::field::part;
-use crate::opened::checked;
-use crate::refusal::{FileFault, FileRefusal, FillFault, Section};
+use crate::field::part_of;
+use crate::opened::open;
+use crate::refusal::{FileFault, FillFault, Section};
+use crate::section::{PARTS, SAMPLES};
 use grid::sample::Sample;
 
-// The checks of the file, then of the grid: how many parts its kind has, and how many samples it has room for.
+// The checks of the file, then of the grid: how many parts its kind has, and how many samples it has room for. The file then has all
+// samples of the grid.
 fn admit(file: &[u8], parts: usize, room: usize) -> Result<(), FillFault>
-    ensures { result ≡ fill_answer parts file.now room }
-{
-    let (size, own_parts, _) = checked(file)?;
-    if own_parts as usize != parts {
-        return Err(FillFault::File(FileRefusal {
-            fault: FileFault::WrongParts,
-            section: Section::Sizes,
-            offset: 4,
-        }));
-    }
-    if room != size.count() {
-        return Err(FillFault::GridLength);
-    }
-    Ok(())
-}
-
-// The same, and that the file then has all samples of the grid.
-fn admitted(file: &[u8], parts: usize, room: usize) -> Result<(), FillFault>
     ensures answer { result ≡ fill_answer parts file.now room }
     ensures enough { OnOk result (7 + room * (parts * 4) ≤ length file.now) }
 {
-    admit(file, parts, room)
+    let opened = open(file)?;
+    Section::Sizes.at(PARTS).require(
+        usize::from(opened.kind.parts()) == parts,
+        FileFault::WrongParts,
+    )?;
+    if room == opened.size.count() {
+        Ok(())
+    } else {
+        Err(FillFault::GridLength)
+    }
 }
 
-// The sample that stands at `at`: every part of another sample is replaced.
-fn sample_at<K: Sample>(file: &[u8], at: usize, other: K) -> K
-    requires { at + K.Sample.PARTS * 4 ≤ length file.now }
-    ensures { K.Sample.parts result ≡ parts_at file.now K.Sample.PARTS at }
+// The sample of these bytes: every part of another sample is replaced.
+fn sample_from<K: Sample>(bytes: &[u8], other: K) -> K
+    requires { length bytes.now ≡ K.Sample.PARTS * 4 }
+    ensures { K.Sample.parts result ≡ parts_at bytes.now K.Sample.PARTS 0 }
 {
     let mut sample = other;
-    for k in 0..K::PARTS {
-        sample = sample.replace_part(k + 1, part(file, at + k * 4));
+    let (parts, _) = bytes.as_chunks();
+    for (k, part) in parts.iter().enumerate() {
+        sample = sample.replace_part(k + 1, part_of(*part));
     }
     sample
 }
@@ -53,9 +47,9 @@ fn store<K: Sample>(file: &[u8], grid: &mut [K])
     ensures { map K.Sample.parts grid.new ≡ samples_of file.now K.Sample.PARTS (length grid.old) }
 {
     let width = K::PARTS * 4;
-    for i in 0..grid.len() {
-        let old = grid[i];
-        grid[i] = sample_at(file, 7 + i * width, old);
+    for (i, sample) in grid.iter_mut().enumerate() {
+        let at = SAMPLES + i * width;
+        *sample = sample_from(&file[at..at + width], *sample);
     }
 }
 
@@ -65,7 +59,7 @@ fn filled<K: Sample>(file: &[u8], grid: &mut [K]) -> Result<(), FillFault>
     ensures after { map K.Sample.parts grid.new ≡ if_ok result (samples_of file.now K.Sample.PARTS (length grid.old)) (map K.Sample.parts grid.old) }
     ensures same { is_err result ≡ true → grid.new ≡ grid.old }
 {
-    admitted(file, K::PARTS, grid.len())?;
+    admit(file, K::PARTS, grid.len())?;
     store(file, grid);
     Ok(())
 }

@@ -3,25 +3,36 @@ ghost use Rattle.std.specs.Prelude.{◌≡◌};
 ghost use Rattle.panel_file.specs.Refusal.{fault_number, section_number, fill_number};
 ghost use Rattle.panel_file.specs.declared.refusal.FillFault.TheVariants.{File};
 
-#[derive(Clone, Copy, PartialEq, Eq, Debug)]
+use thiserror::Error;
+
+// What is wrong with a field, and what its file's author can do about it.
+#[derive(Clone, Copy, PartialEq, Eq, Debug, Error)]
 pub enum FileFault {
-    EndsEarly,
-    WrongCount,
-    WrongParts,
-    WrongSize,
-    PartBeyond,
-    BytesLeftOver,
-    WrongNameByte,
+    #[error("the file ends before this field is whole")]
+    EndsEarly = 11,
+    #[error("this count does not fit: 3 sizes, rows times columns samples, a name of at most 40")]
+    WrongCount = 12,
+    #[error("a sample has one part, a height, or three, a point")]
+    WrongParts = 13,
+    #[error("rows and columns are 2 to 64 each")]
+    WrongSize = 14,
+    #[error("this part lies beyond 100,000 micrometres either way")]
+    PartBeyond = 15,
+    #[error("the panel is complete, and bytes are left over")]
+    BytesLeftOver = 16,
+    #[error("a name has printable characters of ASCII only")]
+    WrongNameByte = 17,
 }
 
 #[derive(Clone, Copy, PartialEq, Eq, Debug)]
 pub enum Section {
-    Sizes,
-    Samples,
-    Name,
+    Sizes = 1,
+    Samples = 2,
+    Name = 3,
 }
 
-#[derive(Clone, Copy, PartialEq, Eq, Debug)]
+#[derive(Clone, Copy, PartialEq, Eq, Debug, Error)]
+#[error("refused {}, section {}, byte {offset}", .fault.number(), .section.number())]
 pub struct FileRefusal {
     pub fault: FileFault,
     pub section: Section,
@@ -40,15 +51,7 @@ impl FileFault {
     pub fn number(self) -> u8
         ensures { result ≡ fault_number self }
     {
-        match self {
-            FileFault::EndsEarly => 11,
-            FileFault::WrongCount => 12,
-            FileFault::WrongParts => 13,
-            FileFault::WrongSize => 14,
-            FileFault::PartBeyond => 15,
-            FileFault::BytesLeftOver => 16,
-            FileFault::WrongNameByte => 17,
-        }
+        self as u8
     }
 }
 
@@ -56,11 +59,7 @@ impl Section {
     pub fn number(self) -> u8
         ensures { result ≡ section_number self }
     {
-        match self {
-            Section::Sizes => 1,
-            Section::Samples => 2,
-            Section::Name => 3,
-        }
+        self as u8
     }
 }
 
@@ -75,6 +74,7 @@ impl FillFault {
     }
 }
 
+// By hand: a derived `From` says nothing of the variant that `?` makes, and clauses name it.
 impl From<FileRefusal> for FillFault {
     ghost from_gives = { λ refusal fault. fault ≡ File refusal };
 

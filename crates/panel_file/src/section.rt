@@ -1,139 +1,130 @@
 // The three sections of a panel file, checked field by field in the order of their bytes.
-ghost use Rattle.std.specs.Prelude.{◌≡◌, ◌+◌, ◌*◌, ◌^◌, ◌<◌, ◌≤◌, length, IfOk, Ok, OnOk};
+ghost use Rattle.std.specs.Prelude.{◌≡◌, ◌+◌, ◌*◌, Ok, Err, MatchResult};
 ghost use Rattle.std.specs.Result.{result_and};
-ghost use Rattle.panel_file.specs.Field.{byte_at, part_at, field};
-ghost use Rattle.panel_file.specs.Layout.{size_fits, part_fits, printable, sizes_answer, size_of, parts_of, parts_from, samples_answer, samples_end, name_from, name_answer};
+ghost use Rattle.panel_file.specs.Field.{byte_at, part_at, field, fields};
+ghost use Rattle.panel_file.specs.Kind.{kind_parts};
+ghost use Rattle.panel_file.specs.Layout.{size_fits, part_fits, printable, sizes_answer, size_of, parts_of, samples_answer, samples_end, name_answer, name_at};
 
-use crate::field::{byte_at, count_at, part_at, require};
+use crate::field::Field;
+use crate::kind::Kind;
 use crate::refusal::{FileFault, FileRefusal, Section};
 use grid::size::GridSize;
 
-// The offset of the number of rows, and of columns, and of parts.
+// The offsets of the fields before the samples, and of the first sample.
+const SIZES_COUNT: usize = 0;
+
 const ROWS: usize = 2;
 
 const COLUMNS: usize = 3;
 
-const PARTS: usize = 4;
+pub(crate) const PARTS: usize = 4;
 
-// Where the samples begin, after their count.
-const SAMPLES: usize = 7;
+const SAMPLES_COUNT: usize = 5;
+
+pub(crate) const SAMPLES: usize = 7;
+
+// What section 1 says: the size of the grid, and the kind of its samples.
+#[derive(Clone, Copy)]
+pub(crate) struct Shape {
+    pub(crate) size: GridSize,
+    pub(crate) kind: Kind,
+}
+
+impl Shape {
+    // How many parts all samples have together.
+    fn parts(self) -> usize
+        ensures { result ≡ self.size.rows * self.size.columns * kind_parts self.kind }
+    {
+        self.size.count() * usize::from(self.kind.parts())
+    }
+}
 
 // A number of rows or of columns.
 fn size_at(file: &[u8], at: usize) -> Result<u8, FileRefusal>
-    requires { at < 2 ^ 32 }
     ensures { result ≡ result_and (field file.now Section.Sizes FileFault.WrongSize 1 (λ at. size_fits (byte_at file.now at)) at) (Ok (byte_at file.now at)) }
 {
-    let size = byte_at(file, Section::Sizes, at)?;
-    require(
-        2 <= size && size <= 64,
-        FileFault::WrongSize,
-        Section::Sizes,
-        at,
-    )?;
+    let field = Section::Sizes.at(at);
+    let size = field.byte(file)?;
+    field.require((2..=64).contains(&size), FileFault::WrongSize)?;
     Ok(size)
 }
 
-// The sizes of the grid, and how many parts a sample has.
-pub(crate) fn sizes(file: &[u8]) -> Result<(GridSize, u8), FileRefusal>
-    ensures { result ≡ result_and (sizes_answer file.now) (Ok (size_of file.now, parts_of file.now)) }
+// The sizes of the grid, and the kind of its samples.
+pub(crate) fn sizes(file: &[u8]) -> Result<Shape, FileRefusal>
+    ensures { MatchResult result
+        (λ shape. (sizes_answer file.now ≡ Ok tt) × (shape.size ≡ size_of file.now) × (kind_parts shape.kind ≡ parts_of file.now))
+        (λ refusal. sizes_answer file.now ≡ Err refusal) }
 {
-    let count = count_at(file, Section::Sizes, 0)?;
-    require(count == 3, FileFault::WrongCount, Section::Sizes, 0)?;
+    let first = Section::Sizes.at(SIZES_COUNT);
+    first.require(first.count(file)? == 3, FileFault::WrongCount)?;
     let rows = size_at(file, ROWS)?;
     let columns = size_at(file, COLUMNS)?;
-    let parts = byte_at(file, Section::Sizes, PARTS)?;
-    require(
-        parts == 1 || parts == 3,
-        FileFault::WrongParts,
-        Section::Sizes,
-        PARTS,
-    )?;
-    Ok((GridSize { rows, columns }, parts))
+    let parts = Section::Sizes.at(PARTS);
+    let kind = Kind::try_from(parts.byte(file)?).map_err(|fault| parts.refused(fault))?;
+    Ok(Shape {
+        size: GridSize { rows, columns },
+        kind,
+    })
 }
 
-// One part of a sample is within its range.
-fn part_within(file: &[u8], at: usize) -> Result<(), FileRefusal>
-    requires { at < 2 ^ 32 }
-    ensures { result ≡ field file.now Section.Samples FileFault.PartBeyond 4 (λ at. part_fits (part_at file.now at)) at }
+// One part of a sample is within its range; the answer is the field after it.
+fn part_within(file: &[u8], here: Field) -> Result<Field, FileRefusal>
+    ensures { result ≡ result_and (field file.now here.section FileFault.PartBeyond 4 (λ at. part_fits (part_at file.now at)) here.at) (Ok (record here { at = here.at + 4 })) }
 {
-    let part = part_at(file, at)?;
-    require(
-        part.unsigned_abs() <= 100_000,
-        FileFault::PartBeyond,
-        Section::Samples,
-        at,
-    )
+    let part = here.part(file)?;
+    here.require(part.unsigned_abs() <= 100_000, FileFault::PartBeyond)?;
+    Ok(here.after(4))
 }
 
-// So many parts, one after the other.
-fn parts_within(file: &[u8], count: usize) -> Result<(), FileRefusal>
-    requires { count < 2 ^ 24 }
-    ensures { result ≡ parts_from file.now count 7 }
+// So many parts, one after the other. (`name_bytes` is its like: one function for both would take a test `Fn([u8; N]) -> bool`, and
+// a bound that names a const parameter gets no proof.)
+fn parts_within(file: &[u8], first: Field, count: usize) -> Result<Field, FileRefusal>
+    ensures { result ≡ result_and (fields file.now first.section FileFault.PartBeyond 4 (λ at. part_fits (part_at file.now at)) count first.at) (Ok (record first { at = first.at + count * 4 })) }
 {
-    for k in 0..count {
-        part_within(file, SAMPLES + k * 4)?;
-    }
-    Ok(())
+    (0..count).try_fold(first, |here, _| part_within(file, here))
 }
 
 // The samples; the answer is the offset at which they end.
-pub(crate) fn samples(file: &[u8], size: GridSize, parts: u8) -> Result<usize, FileRefusal>
-    ensures answer { result ≡ result_and (samples_answer file.now size parts) (Ok (samples_end size parts)) }
-    ensures bound { IfOk result (λ end. end < 2 ^ 30) }
+pub(crate) fn samples(file: &[u8], shape: Shape) -> Result<usize, FileRefusal>
+    ensures { result ≡ result_and (samples_answer file.now shape.size (kind_parts shape.kind)) (Ok (samples_end shape.size (kind_parts shape.kind))) }
 {
-    let places = size.count();
-    let count = count_at(file, Section::Samples, 5)?;
-    require(
-        count as usize == places,
+    let first = Section::Samples.at(SAMPLES_COUNT);
+    let count = first.count(file)?;
+    first.require(
+        usize::from(count) == shape.size.count(),
         FileFault::WrongCount,
-        Section::Samples,
-        5,
     )?;
-    let numbers = places * parts as usize;
-    parts_within(file, numbers)?;
-    Ok(SAMPLES + numbers * 4)
+    let end = parts_within(file, first.after(2), shape.parts())?;
+    Ok(end.at)
 }
 
-// One byte of the name is a printable character.
-fn name_byte(file: &[u8], at: usize) -> Result<(), FileRefusal>
-    requires { at < 2 ^ 32 }
-    ensures { result ≡ field file.now Section.Name FileFault.WrongNameByte 1 (λ at. printable (byte_at file.now at)) at }
+// One byte of the name is a printable character; the answer is the field after it.
+fn name_byte(file: &[u8], here: Field) -> Result<Field, FileRefusal>
+    ensures { result ≡ result_and (field file.now here.section FileFault.WrongNameByte 1 (λ at. printable (byte_at file.now at)) here.at) (Ok (record here { at = here.at + 1 })) }
 {
-    let byte = byte_at(file, Section::Name, at)?;
-    require(
-        32 <= byte && byte <= 126,
-        FileFault::WrongNameByte,
-        Section::Name,
-        at,
-    )
+    let byte = here.byte(file)?;
+    here.require((32..=126).contains(&byte), FileFault::WrongNameByte)?;
+    Ok(here.after(1))
 }
 
 // So many bytes of a name, one after the other.
-fn name_bytes(file: &[u8], at: usize, count: usize) -> Result<(), FileRefusal>
-    requires { (at < 2 ^ 31) × (count < 2 ^ 16) }
-    ensures { result ≡ name_from file.now count at }
+fn name_bytes(file: &[u8], first: Field, count: usize) -> Result<Field, FileRefusal>
+    ensures { result ≡ result_and (fields file.now first.section FileFault.WrongNameByte 1 (λ at. printable (byte_at file.now at)) count first.at) (Ok (record first { at = first.at + count })) }
 {
-    for k in 0..count {
-        name_byte(file, at + k)?;
-    }
-    Ok(())
+    (0..count).try_fold(first, |here, _| name_byte(file, here))
 }
 
 // The name, whose count stands at `at`, and the end of the file after it.
-pub(crate) fn name(file: &[u8], at: usize) -> Result<(), FileRefusal>
-    requires { at < 2 ^ 30 }
-    ensures answer { result ≡ name_answer file.now at }
-    ensures within { OnOk result (at + 2 ≤ length file.now) }
+pub(crate) fn name(file: &[u8], at: usize) -> Result<&[u8], FileRefusal>
+    ensures { MatchResult result
+        (λ name. (name_answer file.now at ≡ Ok tt) × (name.now ≡ name_at file.now at))
+        (λ refusal. name_answer file.now at ≡ Err refusal) }
 {
-    let count = count_at(file, Section::Name, at)?;
-    require(count <= 40, FileFault::WrongCount, Section::Name, at)?;
-    let begin = at + 2;
-    let end = begin + count as usize;
-    name_bytes(file, begin, count as usize)?;
-    require(
-        file.len() == end,
-        FileFault::BytesLeftOver,
-        Section::Name,
-        end,
-    )
+    let first = Section::Name.at(at);
+    let count = first.count(file)?;
+    first.require(count <= 40, FileFault::WrongCount)?;
+    let begin = first.after(2);
+    let end = name_bytes(file, begin, usize::from(count))?;
+    end.require(file.len() == end.at, FileFault::BytesLeftOver)?;
+    Ok(&file[begin.at..])
 }

@@ -1,6 +1,6 @@
 // Worked panel files: every refusal at its first and last field, and each limit on both sides.
 use grid::kinds::{Height, Point};
-use panel_file::{FileFault, FillFault, Section, fill, open};
+use panel_file::{FileFault, FileRefusal, FillFault, Kind, Section, fill, open};
 use std::test::Fail;
 
 // Two by two heights 4, 0, 0, 0, with the name A.
@@ -23,8 +23,8 @@ fn verdict(file: &[u8]) -> (u8, u8, usize) {
 // The verdict on the worked file with one byte changed.
 fn with_byte(at: usize, byte: u8) -> (u8, u8, usize) {
     let mut file = HEIGHTS;
-    if at < file.len() {
-        file[at] = byte;
+    if let Some(old) = file.get_mut(at) {
+        *old = byte;
     }
     verdict(&file)
 }
@@ -36,7 +36,8 @@ fn worked_file_opens(rt: HostRuntime) -> Result<(), Fail> {
     };
     assert_eq!(rt; file.size.rows, 2);
     assert_eq!(rt; file.size.columns, 2);
-    assert_eq!(rt; file.parts, 1);
+    assert_eq!(rt; file.kind, Kind::Heights);
+    assert_eq!(rt; file.kind.parts(), 1);
     assert!(rt; file.name.len() == 1);
     assert_eq!(rt; file.name[0], 65);
     Ok(())
@@ -73,8 +74,7 @@ fn every_beginning_ends_early(rt: HostRuntime) {
         (3, 23),
         (3, 25),
     ];
-    for length in 0..26 {
-        let (section, offset) = fields[length];
+    for (length, (section, offset)) in fields.iter().copied().enumerate() {
         assert_eq!(rt; verdict(&HEIGHTS[0..length]), (11, section, offset));
     }
 }
@@ -125,10 +125,7 @@ fn parts_up_to_the_limit(rt: HostRuntime) {
     ];
     for (bytes, number) in table {
         let mut file = HEIGHTS;
-        file[19] = bytes[0];
-        file[20] = bytes[1];
-        file[21] = bytes[2];
-        file[22] = bytes[3];
+        file[19..23].copy_from_slice(&bytes);
         assert_eq!(rt; verdict(&file).0, number);
     }
 }
@@ -180,8 +177,17 @@ fn fills_heights(rt: HostRuntime) {
     assert_eq!(rt; grid, [Height(4), Height(0), Height(0), Height(0)]);
 }
 
+// The refusal of a file as `fill` answers it.
+fn file_refused(fault: FileFault, section: Section, offset: usize) -> Result<(), FillFault> {
+    Err(FillFault::File(FileRefusal {
+        fault,
+        section,
+        offset,
+    }))
+}
+
 #[test]
-fn a_refusal_leaves_the_grid(rt: HostRuntime) -> Result<(), Fail> {
+fn a_refusal_leaves_the_grid(rt: HostRuntime) {
     let mut short = [Height(9); 3];
     assert_eq!(rt; fill(&HEIGHTS, &mut short), Err(FillFault::GridLength));
     assert_eq!(rt; short, [Height(9); 3]);
@@ -190,61 +196,43 @@ fn a_refusal_leaves_the_grid(rt: HostRuntime) -> Result<(), Fail> {
     assert_eq!(rt; FillFault::GridLength.number(), 41);
     assert_eq!(rt; long, [Height(9); 5]);
     let mut cut = [Height(9); 4];
-    let Err(FillFault::File(early)) = fill(&HEIGHTS[0..25], &mut cut) else {
-        return Err(Fail::new("filled from a file that ends early"));
-    };
-    assert_eq!(rt; early.fault, FileFault::EndsEarly);
+    let early = file_refused(FileFault::EndsEarly, Section::Name, 25);
+    assert_eq!(rt; fill(&HEIGHTS[0..25], &mut cut), early);
     assert_eq!(rt; cut, [Height(9); 4]);
-    Ok(())
 }
 
 // The file is checked before the grid's kind and length, a part of a point at its last field too.
 #[test]
-fn the_file_comes_first(rt: HostRuntime) -> Result<(), Fail> {
+fn the_file_comes_first(rt: HostRuntime) {
     let mut file = POINTS;
     file[54] = 0;
     assert_eq!(rt; verdict(&file), (15, 2, 51));
     let mut grid = [Height(9); 3];
-    let Err(FillFault::File(refusal)) = fill(&file, &mut grid) else {
-        return Err(Fail::new("filled from a part beyond the limit"));
-    };
-    assert_eq!(rt; refusal.fault, FileFault::PartBeyond);
-    assert_eq!(rt; refusal.offset, 51);
+    let beyond = file_refused(FileFault::PartBeyond, Section::Samples, 51);
+    assert_eq!(rt; fill(&file, &mut grid), beyond);
     assert_eq!(rt; grid, [Height(9); 3]);
-    Ok(())
 }
 
 // The grid's kind is checked before its length.
 #[test]
-fn points_do_not_take_heights(rt: HostRuntime) -> Result<(), Fail> {
+fn points_do_not_take_heights(rt: HostRuntime) {
     let old = Point {
         across: 1,
         along: 2,
         up: 3,
     };
     let mut grid = [old; 3];
-    let Err(FillFault::File(refusal)) = fill(&HEIGHTS, &mut grid) else {
-        return Err(Fail::new("filled points from heights"));
-    };
-    assert_eq!(rt; refusal.fault, FileFault::WrongParts);
-    assert_eq!(rt; refusal.section, Section::Sizes);
-    assert_eq!(rt; refusal.offset, 4);
+    let heights = file_refused(FileFault::WrongParts, Section::Sizes, 4);
+    assert_eq!(rt; fill(&HEIGHTS, &mut grid), heights);
     assert_eq!(rt; grid, [old; 3]);
-    Ok(())
 }
 
-// The sizes and both counts of a file of zeros without a name, in as many bytes as it has.
-fn blank(file: &mut [u8], rows: u8, columns: u8, parts: u8) {
-    if file.len() < 7 {
-        return;
-    }
-    let count = (rows as u16 * columns as u16).to_le_bytes();
-    file[0] = 3;
-    file[2] = rows;
-    file[3] = columns;
-    file[4] = parts;
-    file[5] = count[0];
-    file[6] = count[1];
+// The sizes and both counts of a file of zeros without a name.
+fn blank(rows: u8, columns: u8, parts: u8) -> [u8; 1545] {
+    let mut file = [0; 1545];
+    let [low, high] = (u16::from(rows) * u16::from(columns)).to_le_bytes();
+    file[0..7].copy_from_slice(&[3, 0, rows, columns, parts, low, high]);
+    file
 }
 
 #[test]
@@ -262,8 +250,7 @@ fn sizes_up_to_the_limit(rt: HostRuntime) {
         (2, 65, 1, 529, 14, 3),
     ];
     for (rows, columns, parts, length, number, offset) in table {
-        let mut file = [0; 1545];
-        blank(&mut file, rows, columns, parts);
+        let file = blank(rows, columns, parts);
         assert!(rt; length <= 1545);
         let (found, _, at) = verdict(&file[0..length]);
         assert_eq!(rt; (found, at), (number, offset));

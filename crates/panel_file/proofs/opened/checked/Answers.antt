@@ -1,34 +1,12 @@
--- The three sections one after the other: where the walk stops, or that all were passed.
-use Rattle.std.proofs.Common.{◌∙◌}
-use Rattle.std.proofs.lemmas.Result.{IfOk-from_err}
-use Rattle.grid.proofs.Chains.{exit}
-use Rattle.panel_file.proofs.Sections.{at_sizes, at_samples, at_name, all_passed}
+-- The name is refused.
+use Rattle.std.proofs.Common.{ap, ◌∙◌, sym}
+use Rattle.grid.proofs.Chains.{exit, stop}
+use Rattle.panel_file.specs.Open.{shown, open_answer}
+use Rattle.panel_file.proofs.Sections.{third}
 use Rattle.panel_file.proofs.opened.checked.Goals as goal
-
-pub returns-in_err-size : goal.returns-in_err-size
-returns-in_err-size c =
-    record {
-      answer = exit _ c.from_residual.ensures.1 ∙ at_sizes c.args.file.now _ c.in_err-size.ensures;
-      within = IfOk-from_err _ _ c.from_residual.ensures.0;
-    }
-
-pub returns-in_err-at : goal.returns-in_err-at
-returns-in_err-at c =
-    record {
-      answer = exit _ c.from_residual-in_err-at.ensures.1 ∙ at_samples c.args.file.now _ _ c.in_ok-size.ensures _ c.in_err-at.ensures.answer;
-      within = IfOk-from_err _ _ c.from_residual-in_err-at.ensures.0;
-    }
 
 pub returns-in_err-name : goal.returns-in_err-name
 returns-in_err-name c =
-    record {
-      answer = exit _ c.from_residual-in_err-name.ensures.1 ∙ at_name c.args.file.now _ _ c.in_ok-size.ensures _ c.in_ok-at.ensures.answer _ c.in_err-name.ensures.answer;
-      within = IfOk-from_err _ _ c.from_residual-in_err-name.ensures.0;
-    }
-
-pub returns : goal.returns
-returns c =
-    record {
-      answer = all_passed c.args.file.now _ _ c.in_ok-size.ensures _ c.in_ok-at.ensures.answer c.in_ok-name.ensures.answer;
-      within = c.in_ok-name.ensures.within;
-    }
+    let sizes = c.in_ok-shape.ensures in
+    ap shown (exit _ c.from_residual-in_err-name.ensures.1)
+    ∙ sym (stop (open_answer c.args.file.now) _ _ (third c.args.file.now _ _ _ _ sizes.0 sizes.1 sizes.2 c.in_ok-end.ensures c.in_err-name.ensures))

@@ -1,19 +1,16 @@
--- One byte of the name more, or the first that is refused.
-use Rattle.std.proofs.Common.{◌+◌, sym, ◌∙◌, arith}
-use Rattle.grid.proofs.Chains.{exit}
+-- A walk over the bytes of a name.
+use Rattle.std.proofs.Common.{◌≡◌, ◌+◌, ◌*◌, Ok, ap, ◌∙◌, arith, rules}
+use Rattle.std.specs.Result.{result_and}
 use Rattle.panel_file.specs.declared.refusal.FileFault.TheVariants.{WrongNameByte}
-use Rattle.panel_file.specs.declared.refusal.Section.TheVariants.{Name}
-use Rattle.panel_file.specs.Field.{byte_at}
+use Rattle.panel_file.specs.Field.{byte_at, fields}
 use Rattle.panel_file.specs.Layout.{printable}
-use Rattle.panel_file.proofs.Fields.{fields_more, fields_stop}
+use Rattle.panel_file.proofs.Walk.{walked}
 use Rattle.panel_file.proofs.section.name_bytes.Goals as goal
 
-pub returns-in_err-name_byte : goal.returns-in_err-name_byte
-returns-in_err-name_byte c =
-    exit _ c.from_residual.ensures.1
-    ∙ fields_stop c.args.file.now Name WrongNameByte 1 (λ at. printable (byte_at c.args.file.now at)) c.args.count c.loop-k.k (c.args.at + c.loop-k.k) _ _ c.loop-k-test.true c.loop-k.invariant (sym c.in_err-name_byte.ensures)
-
-pub loop-k-preserved : goal.loop-k-preserved
-loop-k-preserved c =
-    fields_more c.args.file.now Name WrongNameByte 1 (λ at. printable (byte_at c.args.file.now at)) c.args.count c.loop-k.k (c.args.at + c.loop-k.k) (c.args.at + (c.loop-k.k + 1)) _
-    c.loop-k-test.true (omega arith) c.loop-k.invariant (sym c.in_ok-name_byte.ensures)
+pub returns : goal.returns
+returns c =
+    let file = c.args.file.now in
+    let first = c.args.first in
+    let one : c.args.count * 1 ≡ c.args.count = omega arith in
+    walked file WrongNameByte 1 (λ at. printable (byte_at file at)) _ _ (λ here x v q made. (search rules, search rules)) _ _ _ _ c.try_fold.ensures.ran
+    ∙ ap (λ n. result_and (fields file first.section WrongNameByte 1 (λ at. printable (byte_at file at)) c.args.count first.at) (Ok (record { section = first.section; at = first.at + n }))) one

@@ -1,0 +1,38 @@
+// The kinds of sample that a panel file can have.
+use crate::refusal::FileFault;
+
+// A kind by how many parts each sample has.
+#[derive(Clone, Copy, PartialEq, Eq, Debug)]
+pub enum Kind {
+    Heights = 1,
+    Points = 3,
+}
+
+impl Kind {
+    ghost use Rattle.std.specs.Prelude.{◌≡◌};
+    ghost use Rattle.panel_file.specs.Kind.{kind_parts};
+
+    // How many parts each sample has.
+    pub fn parts(self) -> u8
+        ensures { result ≡ kind_parts self }
+    {
+        self as u8
+    }
+}
+
+impl TryFrom<u8> for Kind {
+    ghost use Rattle.std.specs.Prelude.{◌≡◌};
+    ghost use Rattle.panel_file.specs.Kind.{kind_with};
+
+    type Error = FileFault;
+
+    ghost try_from_gives = { λ parts kind. kind ≡ kind_with parts };
+
+    fn try_from(parts: u8) -> Result<Kind, FileFault> {
+        match parts {
+            1 => Ok(Kind::Heights),
+            3 => Ok(Kind::Points),
+            _ => Err(FileFault::WrongParts),
+        }
+    }
+}
