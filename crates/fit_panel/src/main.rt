@@ -3,13 +3,13 @@
 
 mod job;
 mod report;
-mod source;
 
 use grid::kinds::{Height, Point};
+use input::start_of;
 use job::show_panel;
-use panel_file::{Kind, PanelFile, open};
+use panel_file::{Kind, PanelFile, enough, open};
 use report::show_file;
-use std::{env, io};
+use std::{env, fs, io};
 
 // The panel of a file that was opened, by the kind of its samples.
 fn show_opened(rt: &HostRuntime, bytes: &[u8], file: &PanelFile) -> anyhow::Result<()> {
@@ -46,14 +46,19 @@ fn show_source(rt: &HostRuntime, name: &str, bytes: io::Result<Vec<u8>>) -> anyh
     }
 }
 
+// The start of a file, no more than tells whether it is a panel file.
+fn start_of_file(rt: &HostRuntime, path: &str) -> io::Result<Vec<u8>> {
+    start_of(rt.alloc(), fs::open(rt, path)?, enough())
+}
+
 fn main(rt: HostRuntime) -> anyhow::Result<()> {
-    let mut named = false;
-    for path in env::args(&rt)?.skip(1) {
-        named = true;
-        show_source(&rt, path.as_str(), source::file_bytes(&rt, path.as_str()))?;
+    let mut paths = env::args(&rt)?.skip(1).peekable();
+    if paths.peek().is_none() {
+        let input = start_of(rt.alloc(), rt.stdin(), enough());
+        return show_source(&rt, "standard input", input);
     }
-    if !named {
-        show_source(&rt, "standard input", source::input_bytes(&rt))?;
+    for path in paths {
+        show_source(&rt, path.as_str(), start_of_file(&rt, path.as_str()))?;
     }
     Ok(())
 }

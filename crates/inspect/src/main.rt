@@ -4,8 +4,8 @@
 use grid::kinds::{Height, Point};
 use grid::sample::Sample;
 use grid::size::GridSize;
+use input::start_of;
 use panel_file::{FillFault, PanelFile, enough, fill, open};
-use std::io::Read;
 use std::{env, fs, io};
 
 // Whether a controller that carves from samples like `blank` loads the file.
@@ -52,15 +52,9 @@ fn print_file(rt: &HostRuntime, bytes: &[u8]) -> io::Result<()> {
     print_load(rt, "points", bytes, &file, origin)
 }
 
-// Reads no more than tells whether the input is a panel file.
-fn read_input<R: Read + Drop>(rt: &HostRuntime, input: R) -> io::Result<Vec<u8>> {
-    let mut bytes = Vec::new(rt.alloc());
-    input.take(enough() as u64).read_to_end(&mut bytes)?;
-    Ok(bytes)
-}
-
-fn read_path(rt: &HostRuntime, path: &str) -> io::Result<Vec<u8>> {
-    read_input(rt, fs::open(rt, path)?)
+// The start of a file, no more than tells whether it is a panel file.
+fn start_of_file(rt: &HostRuntime, path: &str) -> io::Result<Vec<u8>> {
+    start_of(rt.alloc(), fs::open(rt, path)?, enough())
 }
 
 fn inspect(rt: &HostRuntime, name: &str, bytes: io::Result<Vec<u8>>) -> io::Result<()> {
@@ -74,10 +68,11 @@ fn inspect(rt: &HostRuntime, name: &str, bytes: io::Result<Vec<u8>>) -> io::Resu
 fn main(rt: HostRuntime) -> io::Result<()> {
     let mut paths = env::args(&rt)?.skip(1).peekable();
     if paths.peek().is_none() {
-        return inspect(&rt, "standard input", read_input(&rt, rt.stdin()));
+        let input = start_of(rt.alloc(), rt.stdin(), enough());
+        return inspect(&rt, "standard input", input);
     }
     for path in paths {
-        inspect(&rt, path.as_str(), read_path(&rt, path.as_str()))?;
+        inspect(&rt, path.as_str(), start_of_file(&rt, path.as_str()))?;
     }
     Ok(())
 }

@@ -1,6 +1,6 @@
 // The marks of lines: which are current, which go stale, and the grade of each.
-ghost use Rattle.std.specs.Prelude.{◌≡◌, ◌≤◌, length, replicate, slice_index};
-ghost use Rattle.surface.specs.Patch.{all_below};
+ghost use Rattle.std.specs.Prelude.{◌≡◌, replicate};
+ghost use Rattle.std.specs.List.{list_all};
 ghost use Rattle.panel.specs.declared.record.Mark.TheVariants.{Unrun};
 ghost use Rattle.panel.specs.Calls.{mark, grade_of, is_current, stale, stale_at, ran_at, all_current};
 ghost use Rattle.panel.specs.Reading.{greatest};
@@ -67,9 +67,9 @@ pub(crate) fn all_current(marks: &[Mark], count: usize) -> bool
     (0..count).all(|i| is_current(marks, i + 1))
 }
 
-// Whether four lines are current.
-pub(crate) fn are_current(marks: &[Mark], lines: &[usize; 4]) -> bool
-    ensures { result ≡ all_below 4 (λ a. is_current (mark marks.now (slice_index lines.now a))) }
+// Whether these lines are all current.
+pub(crate) fn are_current(marks: &[Mark], lines: &[usize]) -> bool
+    ensures { result ≡ list_all (λ line. is_current (mark marks.now line)) lines.now }
 {
     lines.iter().all(|&line| is_current(marks, line))
 }

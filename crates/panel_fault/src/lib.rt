@@ -5,41 +5,42 @@ ghost use Rattle.std.specs.Prelude.{◌≡◌};
 ghost use Rattle.panel_fault.specs.Refusal.{fault_number, as_fault};
 
 use line::solver::SolveFault;
-use std::error::Error;
-use std::fmt;
+use thiserror::Error;
 
 // Why a call was refused. The call then left the panel and all grids as they were.
-#[derive(Clone, Copy, PartialEq, Eq, Debug)]
+#[derive(Clone, Copy, PartialEq, Eq, Debug, Error)]
 pub enum PanelFault {
-    // Rows or columns outside 2 to 64.
+    #[error("rows and columns are 2 to 64 each")]
     Size,
-    // A place off the grid.
+    #[error("the place is off the grid")]
     Place,
-    // No such line.
+    #[error("there is no such line")]
     NoLine,
-    // A reading outside the area.
+    #[error("the place is outside the area")]
     OutsideArea,
-    // The first part of a sample, row by row and all counted from 1, that lies beyond 100,000 either way.
+    // The first such part, row by row and all counted from 1.
+    #[error("a part lies beyond 100,000 micrometres either way")]
     PartBeyond {
         row: usize,
         column: usize,
         part: usize,
     },
-    // 60,000 probes were accepted before.
+    #[error("60,000 probes were accepted before")]
     TooManyProbes,
-    // Some first line is not current.
+    #[error("a first line is not current")]
     FirstStale,
-    // A second line that the reading needs is not current.
+    #[error("a second line that the reading needs is not current")]
     SecondStale,
-    // A grid of another length than rows times columns.
+    #[error("a grid has another length than rows times columns")]
     GridLength,
     // The solver refused a part of a line.
+    #[error("{}", solver_takes(.fault))]
     Solver {
         line: usize,
         part: usize,
         fault: SolveFault,
     },
-    // A control point that the reading needs lies beyond 16,000,000 either way.
+    #[error("a control point lies beyond 16,000,000 either way")]
     ControlBeyond,
 }
 
@@ -64,29 +65,14 @@ impl PanelFault {
     }
 }
 
-impl fmt::Display for PanelFault {
-    fn fmt<W: fmt::Write>(&self, f: &mut fmt::Formatter<W>) -> fmt::Result {
-        f.write_str(match self {
-            PanelFault::Size => "rows and columns are 2 to 64 each",
-            PanelFault::Place => "the place is off the grid",
-            PanelFault::NoLine => "there is no such line",
-            PanelFault::OutsideArea => "the place is outside the area",
-            PanelFault::PartBeyond { .. } => "a part lies beyond 100,000 micrometres either way",
-            PanelFault::TooManyProbes => "60,000 probes were accepted before",
-            PanelFault::FirstStale => "a first line is not current",
-            PanelFault::SecondStale => "a second line that the reading needs is not current",
-            PanelFault::GridLength => "a grid has another length than rows times columns",
-            PanelFault::Solver { fault, .. } => match fault {
-                SolveFault::Length => "the solver takes lines of 2 to 64 numbers",
-                SolveFault::Output => "the solver's output has another length",
-                SolveFault::Beyond(_) => "the solver takes numbers up to 5,000,000 either way",
-            },
-            PanelFault::ControlBeyond => "a control point lies beyond 16,000,000 either way",
-        })
+// What a solver takes, for a carver who did not give the line herself.
+fn solver_takes(fault: &SolveFault) -> &'static str {
+    match fault {
+        SolveFault::Length => "the solver takes lines of 2 to 64 numbers",
+        SolveFault::Output => "the solver's output has another length",
+        SolveFault::Beyond(_) => "the solver takes numbers up to 5,000,000 either way",
     }
 }
-
-impl Error for PanelFault {}
 
 // A solver's fault whole, with the line and the part that it refused.
 #[derive(Clone, Copy)]

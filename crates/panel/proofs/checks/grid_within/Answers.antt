@@ -17,9 +17,3 @@ loop-k-preserved g c =
     let n = length-map c.args.samples.now g.K.Sample.parts in
     let at = get_or-map g.K.Sample.parts c.args.samples.now c.loop-k.k c.index-samples-k.result [] (omega arith) ∙ ap g.K.Sample.parts (sym c.index-samples-k.is) in
     sym (grid_on c.args.columns c.loop-k.k v _ (omega arith) at (sym c.in_ok-parts_within.ensures)) ∙ c.loop-k.invariant
-
-pub returns : goal.returns
-returns g c =
-    let v = map g.K.Sample.parts c.args.samples.now in
-    let n = length-map c.args.samples.now g.K.Sample.parts in
-    sym (grid_all c.args.columns c.loop-k.k v (omega arith)) ∙ c.loop-k.invariant

@@ -6,17 +6,6 @@ use Rattle.panel.specs.Reading.{greatest}
 use Rattle.panel.proofs.Needed.{greatest_more, greatest_used}
 use Rattle.panel.proofs.marks.greatest_grade.Goals as goal
 
-pub loop-mark-preserved : goal.loop-mark-preserved
-loop-mark-preserved c =
-    let ks = c.args.marks.now in
-    let i = c.loop-mark.mark-index in
-    let used = c.min.result in
-    let low : i < used = omega (arith, length-take used ks) in
-    let back : i ≡ i + 1 - 1 = omega arith in
-    greatest_more (λ i. grade_of (mark ks i)) i c.loop-mark.most _ _ c.loop-mark.invariant
-    (c.grade.ensures ∙ ap grade_of (get_or_default (take used ks) i _ Unrun c.loop-mark-test.true ∙ get_or-take used ks i Unrun low) ∙ ap (λ k. grade_of (get_or ks k Unrun)) back)
-    c.max-most.ensures
-
 pub returns : goal.returns
 returns c =
     let ks = c.args.marks.now in

@@ -6,6 +6,3 @@ use Rattle.panel.proofs.marks.let_go.Goals as goal
 
 pub loop-mark-preserved : goal.loop-mark-preserved
 loop-mark-preserved c = search (rules, map_over_more let_go)
-
-pub returns : goal.returns
-returns c = search (rules, take_all, drop_all, append-nil)

@@ -5,14 +5,6 @@ use Rattle.grid.proofs.Chains.{exit}
 use Rattle.panel.proofs.Passed.{probing}
 use Rattle.panel.proofs.record.Panel.put.Goals as goal
 
-pub returns-in_err-may_probe : goal.returns-in_err-may_probe
-returns-in_err-may_probe g c =
-    let row = to_z-of_z w32 c.args.row c.ranges.row in
-    let column = to_z-of_z w32 c.args.column c.ranges.column in
-    let refused = rw (row, column) at c.in_err-may_probe.ensures in
-    let is = exit _ c.from_residual.ensures.1 in
-    record { answer = is ∙ refused; panel = rw (← refused) refl; after = rw (← refused) refl; same = rw is refl }
-
 pub index_of-k-requires : goal.index_of-k-requires
 index_of-k-requires g c =
     let row = to_z-of_z w32 c.args.row c.ranges.row in

@@ -7,15 +7,6 @@ use Rattle.panel.specs.Calls.{first_lines, first_answer}
 use Rattle.panel.proofs.LineCalls.{numbered, first_past, first_out, first_within, first_takes, first_stored}
 use Rattle.panel.proofs.record.Panel.run_first.Goals as goal
 
-pub returns-in_err-may_run : goal.returns-in_err-may_run
-returns-in_err-may_run g c =
-    let f = g.K.Sample.parts in
-    let p = c.args.self.now in
-    let line = to_z-of_z w32 c.args.line c.ranges.line in
-    let refused = rw (line, c.first_lines.ensures.value) at c.in_err-may_run.ensures in
-    let out = first_out g.K.Sample.PARTS p (map f c.args.samples.now) (map f c.args.halves.now) c.args.line _ (sym refused) in
-    record { answer = exit _ c.from_residual.ensures.1 ∙ sym out; panel = rw out refl; after = rw out refl; same = λ _. refl }
-
 pub invariant_of-source : goal.invariant_of-source
 invariant_of-source g c =
     let f = g.K.Sample.parts in
@@ -25,16 +16,6 @@ invariant_of-source g c =
     let n = numbered f p c.args.samples.now c.args.halves.now c.args.line (first_lines p) (sym ok) in
     let lane = rw line at c.first_lane-lane.ensures in
     record { inside = first_within p (nat_abs c.args.line) _ _ n.long_xs lane n.on; low = omega arith }
-
-pub fit_line-requires : goal.fit_line-requires
-fit_line-requires g c =
-    let f = g.K.Sample.parts in
-    let p = c.args.self.now in
-    let line = to_z-of_z w32 c.args.line c.ranges.line in
-    let ok = rw (line, c.first_lines.ensures.value) at c.in_ok-may_run.ensures in
-    let n = numbered f p c.args.samples.now c.args.halves.now c.args.line (first_lines p) (sym ok) in
-    let lane = rw line at c.first_lane-lane.ensures in
-    first_within p (nat_abs c.args.line) _ _ n.long_ys lane n.on
 
 pub returns-in_err-fit_line : goal.returns-in_err-fit_line
 returns-in_err-fit_line g c =

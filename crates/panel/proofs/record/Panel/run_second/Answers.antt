@@ -9,25 +9,6 @@ use Rattle.panel.specs.Calls.{all_current, first_lines, second_lines, second_ans
 use Rattle.panel.proofs.LineCalls.{numbered, second_past, second_out, second_stale, second_within, second_takes, second_stored}
 use Rattle.panel.proofs.record.Panel.run_second.Goals as goal
 
-pub returns-in_err-may_run : goal.returns-in_err-may_run
-returns-in_err-may_run g c =
-    let f = g.K.Sample.parts in
-    let p = c.args.self.now in
-    let line = to_z-of_z w32 c.args.line c.ranges.line in
-    let refused = rw (line, c.second_lines.ensures.value) at c.in_err-may_run.ensures in
-    let out = second_out g.K.Sample.PARTS p (map f c.args.halves.now) (map f c.args.controls.now) c.args.line _ (sym refused) in
-    record { answer = exit _ c.from_residual.ensures.1 ∙ sym out; panel = rw out refl; after = rw out refl; same = λ _. refl }
-
-pub returns-in_err-check : goal.returns-in_err-check
-returns-in_err-check g c =
-    let f = g.K.Sample.parts in
-    let p = c.args.self.now in
-    let line = to_z-of_z w32 c.args.line c.ranges.line in
-    let ok = rw (line, c.second_lines.ensures.value) at c.in_ok-may_run.ensures in
-    let stale = rw c.first_lines_are_current.ensures at (sym c.in_err-check.ensures) in
-    let out = second_stale g.K.Sample.PARTS p (map f c.args.halves.now) (map f c.args.controls.now) c.args.line _ (sym ok) stale in
-    record { answer = exit _ c.from_residual-in_err-check.ensures.1 ∙ sym out; panel = rw out refl; after = rw out refl; same = λ _. refl }
-
 pub invariant_of-source : goal.invariant_of-source
 invariant_of-source g c =
     let f = g.K.Sample.parts in
@@ -37,16 +18,6 @@ invariant_of-source g c =
     let n = numbered f p c.args.halves.now c.args.controls.now c.args.line (second_lines p) (sym ok) in
     let lane = rw line at c.second_lane-lane.ensures in
     record { inside = second_within p (nat_abs c.args.line) _ _ n.long_xs lane n.on; low = omega arith }
-
-pub fit_line-requires : goal.fit_line-requires
-fit_line-requires g c =
-    let f = g.K.Sample.parts in
-    let p = c.args.self.now in
-    let line = to_z-of_z w32 c.args.line c.ranges.line in
-    let ok = rw (line, c.second_lines.ensures.value) at c.in_ok-may_run.ensures in
-    let n = numbered f p c.args.halves.now c.args.controls.now c.args.line (second_lines p) (sym ok) in
-    let lane = rw line at c.second_lane-lane.ensures in
-    second_within p (nat_abs c.args.line) _ _ n.long_ys lane n.on
 
 pub returns-in_err-fit_line : goal.returns-in_err-fit_line
 returns-in_err-fit_line g c =

@@ -4,12 +4,6 @@ use Rattle.std.proofs.lemmas.List.FromFn.{fill_by_all}
 use Rattle.panel.proofs.Lanes.{cast_fits, cast_is, wrote, with_part_is}
 use Rattle.panel.proofs.source.Solved.at.Goals as goal
 
-pub overflow_cast-line : goal.overflow_cast-line
-overflow_cast-line g c =
-    let lines = c.args.self.now.parts in
-    let low : c.loop-q.q < c.PARTS.result = omega (arith, length-take c.PARTS.result lines) in
-    rw (get_or-take c.PARTS.result lines c.loop-q.q [] low) (cast_fits (get_or (get_or lines c.loop-q.q []) c.args.e (pos 0)) (c.args.self.now.narrow c.loop-q.q c.args.e))
-
 pub loop-q-preserved : goal.loop-q-preserved
 loop-q-preserved g c k l =
     let lines = c.args.self.now.parts in

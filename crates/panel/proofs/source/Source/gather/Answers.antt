@@ -6,11 +6,6 @@ use Rattle.panel.specs.Lane.{on_lane}
 use Rattle.panel.proofs.Lanes.{product_fits, product_is, wrote}
 use Rattle.panel.proofs.source.Source.gather.Goals as goal
 
-pub overflow_mul-number : goal.overflow_mul-number
-overflow_mul-number g c =
-    let f : SFits w32 c.part.result = search rules in
-    product_fits c.from.result c.from-in-loop-e.result c.args.self.now.scale c.part.result c.from.ensures c.from-in-loop-e.ensures c.args.self.now.low f
-
 pub loop-e-preserved : goal.loop-e-preserved
 loop-e-preserved g c =
     let grid = map g.K.Sample.parts c.args.self.now.grid.now in

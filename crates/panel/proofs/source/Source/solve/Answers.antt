@@ -63,13 +63,6 @@ returns-in_err-solve_part-clause-answer g c =
 pub invariant_of-result : goal.invariant_of-result
 invariant_of-result g c = record { narrow = narrow_append c.loop-q.line-items _ c.loop-q.invariant.narrow (narrow_drop c.PARTS.result _ narrow_zeros) }
 
-pub returns-clause-answer : goal.returns-clause-answer
-returns-clause-answer g c =
-    let lines = laned c.args.self.now.scale (map g.K.Sample.parts c.args.self.now.grid.now) c.args.self.now.lane in
-    let rows : length c.loop-q.line-items ≡ g.K.Sample.PARTS = omega (arith, c.loop-q.auto.line-items, length-take c.PARTS.result (replicate 4 (replicate 64 (pos 0))), c.PARTS.ensures, g.met.K.Sample.counted.1) in
-    let m : g.K.Sample.PARTS - c.loop-q.q ≡ 0 = omega arith in
-    sym (ap (λ n. solver_takes c.args.number (c.loop-q.q + 1) n lines) m) ∙ c.loop-q.invariant.answer
-
 pub returns-clause-filled : goal.returns-clause-filled
 returns-clause-filled g c =
     let rows : length c.loop-q.line-items ≡ g.K.Sample.PARTS = omega (arith, c.loop-q.auto.line-items, length-take c.PARTS.result (replicate 4 (replicate 64 (pos 0))), c.PARTS.ensures, g.met.K.Sample.counted.1) in

@@ -10,12 +10,6 @@ use Rattle.panel.proofs.ReadCall.{some_read, none_read, within_none, within_more
 use Rattle.panel.proofs.Stored.{shifted}
 use Rattle.panel.proofs.view.View.reading.Goals as goal
 
-pub bounds-self-0 : goal.bounds-self-0
-bounds-self-0 g c =
-    let r : 1 ≤ c.args.self.now.panel.now.size.rows = omega (arith, c.args.self.now.in_area) in
-    let s : 1 ≤ c.args.self.now.panel.now.size.columns = omega (arith, c.args.self.now.in_area) in
-    omega (arith, c.args.self.now.sized, mul-le-mul r s)
-
 pub loop-k-init : goal.loop-k-init
 loop-k-init g c = (within_none c.args.self.now.panel.now (map g.K.Sample.parts c.args.self.now.controls.now) c.args.self.now.x c.args.self.now.y 0, λ j low. absurd (omega arith))
 
