@@ -1,14 +1,12 @@
 -- A word more of a text.
-use Rattle.std.proofs.Common.{◌≡◌, ℕ, ◌+◌, ◌<◌, List, [], ◌∷◌, ◌++◌, map, length, ℤ, IsErrAnd, Ok, Err, Result, sym, refl, ap, ◌∙◌, subst, MatchResult}
+use Rattle.std.proofs.Common.{◌≡◌, ℕ, ◌+◌, ◌<◌, List, [], ◌∷◌, ◌++◌, map, length, ℤ, sym, refl, ap, ◌∙◌, subst}
 use Rattle.std.specs.Str.Parse.{signed_digits_value}
 use Rattle.std.specs.Char.{is_whitespace, is_not_whitespace}
 use Rattle.std.specs.Str.{NoCharPasses, EmptyOrStartsWithPassing}
 use Rattle.std.specs.List.{AllByRecursion}
 use Rattle.std.proofs.ByRecursion.{All-append}
 use Rattle.std.proofs.lemmas.List.{map-append, length-map}
-use Rattle.fit_line.specs.declared.words.TextFault.{TextFault}
-use Rattle.fit_line.specs.declared.words.TextFault.TheVariants.{Memory}
-use Rattle.fit_line.specs.Words.{First, Begins, Writes, LineOf, Blames, Blamed}
+use Rattle.fit_line.specs.Words.{First, Begins, Writes, LineOf, Blames}
 
 -- what `split_whitespace` says of an item
 pub first_of : (text word rest : List ℕ) → (gap : List ℕ) × (text ≡ gap ++ (word ++ rest)) × (0 < length word) × NoCharPasses is_not_whitespace gap × NoCharPasses is_whitespace word × ((more : List ℕ) × EmptyOrStartsWithPassing is_whitespace rest more) → First text word rest
@@ -54,8 +52,3 @@ module _ {text rest : List ℕ} {numbers : List ℤ} (old : Sofar text rest numb
     counted = counted;
     wrong = wrong;
   }
-
--- where memory fails, nothing is said of the text
-pub no_memory : {A : Type 0} (text : List ℕ) (P : A → Type 0) (r : Result A TextFault) → IsErrAnd r (λ fault. fault ≡ Memory) → MatchResult r P (Blamed text)
-no_memory text P (Ok v) h = absurd h
-no_memory text P (Err fault) h = subst (Blamed text) (sym h) tt
