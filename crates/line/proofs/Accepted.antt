@@ -36,7 +36,7 @@ all_within (x ∷ k) i e j h = by (leb (nat_abs x) limit) (leb-true (nat_abs x) 
         cond b (first_beyond (i + 1) k) (Err (Beyond i)) ≡ Ok tt → (j : ℕ) → j < length (x ∷ k) → nat_abs (get_or (x ∷ k) j (pos 0)) ≤ limit
     by true small rest e zero h = small refl
     by true small rest e (suc j) h = rest e j (omega arith)
-    by false small rest e j h = let z : ◌≡◌ {A = ℕ} 0 1 = cc in absurd (omega arith)
+    by false small rest e j h = cc
 
 pub record Accepted (k : List ℤ) (room : ℕ) : Type 0 where
   pub admitted : Admitted k
@@ -51,6 +51,6 @@ accepted k room = by (leb 2 (length k)) (leb (length k) 64) (eqb room (length k)
       admitted = record { low = p refl; high = q refl; small = λ j on. all_within k 1 e (j - 1) (omega arith) };
       fits = r refl;
     }
-    by true true false p q r e = let z : ◌≡◌ {A = ℕ} 0 1 = cc in absurd (omega arith)
-    by true false c p q r e = let z : ◌≡◌ {A = ℕ} 0 1 = cc in absurd (omega arith)
-    by false b c p q r e = let z : ◌≡◌ {A = ℕ} 0 1 = cc in absurd (omega arith)
+    by true true false p q r e = cc
+    by true false c p q r e = cc
+    by false b c p q r e = cc
