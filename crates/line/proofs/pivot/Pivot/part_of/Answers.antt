@@ -1,5 +1,5 @@
 -- The product fits 128 bits, and its part fits 64.
-use Rattle.std.proofs.Common.{◌≤◌, ◌*ℤ◌, unsigned_abs, ◌+◌, ◌*◌, ◌^◌, arith, w64, SFits}
+use Rattle.std.proofs.Common.{◌≡◌, ◌≤◌, ◌*ℤ◌, ℤ, unsigned_abs, ◌*◌, ◌^◌, sym, ap, ◌∙◌, subst, arith, w64, SFits, to_z, of_z}
 use mir.Syntax.{w128}
 use lib.Signed.{shr_z}
 use Rattle.std.proofs.lemmas.Int.{to_z-of_z, fits_signed_from_abs, fits_signed_mul}
@@ -7,15 +7,28 @@ use Rattle.line.specs.FixedPoint.{denominator, fraction}
 use Rattle.line.specs.Fractions.{fraction_small}
 use Rattle.line.proofs.pivot.Pivot.part_of.Goals as goal
 
+module _ (w b : ℤ) (third : 3 * unsigned_abs w ≤ denominator) (small : unsigned_abs b ≤ 2 ^ 62) where
+  part_fits : SFits w64 (fraction w b)
+  part_fits = fits_signed_from_abs w64 (fraction w b) (omega (arith, fraction_small w b third))
+
+  part_is : to_z w128 (of_z w128 (shr_z (to_z w128 (of_z w128 (to_z w128 (of_z w128 (to_z w64 (of_z w64 w))) *ℤ to_z w128 (of_z w128 (to_z w64 (of_z w64 b)))))) denominator)) ≡ fraction w b
+  unfolding fraction
+  part_is =
+      let f : SFits w64 w = fits_signed_from_abs w64 w (omega arith) in
+      let g : SFits w64 b = fits_signed_from_abs w64 b (omega arith) in
+      let h : SFits w128 w = fits_signed_from_abs w128 w (omega arith) in
+      let i : SFits w128 b = fits_signed_from_abs w128 b (omega arith) in
+      let j : SFits w128 (w *ℤ b) = fits_signed_mul w128 w b (2 ^ 60) (2 ^ 62) (omega arith) small (omega arith) in
+      let k : SFits w128 (shr_z (w *ℤ b) denominator) = fits_signed_from_abs w128 (shr_z (w *ℤ b) denominator) (omega (arith, fraction_small w b third)) in
+      simp to_z-of_z
+
+pub overflow_cast-result : goal.overflow_cast-result
+overflow_cast-result c =
+    rw (c.from.ensures, c.from-2.ensures)
+    (subst (SFits w64) (sym (part_is c.args.self.w c.args.b c.args.self.small c.requires)) (part_fits c.args.self.w c.args.b c.args.self.small c.requires))
+
 pub returns : goal.returns
-unfolding fraction
 returns c =
-    let part : 3 * unsigned_abs (shr_z (c.args.self.w *ℤ c.args.b) denominator) ≤ unsigned_abs c.args.b + 2 = fraction_small c.args.self.w c.args.b c.args.self.small in
-    let w : SFits w64 c.args.self.w = fits_signed_from_abs w64 c.args.self.w (omega (arith, c.args.self.small)) in
-    let b : SFits w64 c.args.b = c.ranges.b in
-    let w' : SFits w128 c.args.self.w = fits_signed_from_abs w128 c.args.self.w (omega (arith, c.args.self.small)) in
-    let b' : SFits w128 c.args.b = fits_signed_from_abs w128 c.args.b (omega arith) in
-    let product : SFits w128 (c.args.self.w *ℤ c.args.b) = fits_signed_mul w128 c.args.self.w c.args.b (2 ^ 60) (2 ^ 62) (omega (arith, c.args.self.small)) c.requires (omega arith) in
-    let shifted : SFits w128 (shr_z (c.args.self.w *ℤ c.args.b) denominator) = fits_signed_from_abs w128 (shr_z (c.args.self.w *ℤ c.args.b) denominator) (omega arith) in
-    let result : SFits w64 (shr_z (c.args.self.w *ℤ c.args.b) denominator) = fits_signed_from_abs w64 (shr_z (c.args.self.w *ℤ c.args.b) denominator) (omega arith) in
-    rw (c.from.ensures, c.from-2.ensures) (simp to_z-of_z)
+    rw (c.from.ensures, c.from-2.ensures)
+    (ap (λ z. to_z w64 (of_z w64 z)) (part_is c.args.self.w c.args.b c.args.self.small c.requires) ∙
+    to_z-of_z w64 (fraction c.args.self.w c.args.b) (part_fits c.args.self.w c.args.b c.args.self.small c.requires))
