@@ -9,7 +9,7 @@ use Rattle.std.proofs.lemmas.List.FromFn.{map-range_with_len_more, length-map-ra
 use Rattle.std.proofs.lemmas.Int.{to_z-of_z}
 use Rattle.line.specs.Line.{Within}
 use Rattle.line.specs.Solver.{limit}
-use Rattle.line.specs.FixedPoint.{scale, denominator, fraction, nearest}
+use Rattle.line.specs.FixedPoint.{scale, fraction, nearest}
 use Rattle.line.specs.Pivot.{pivot}
 use Rattle.line.specs.Elimination.{forward, back, backs, fine, forward_limit, back_limit}
 use Rattle.line.specs.Sweeps.{forward_small, back_small}

@@ -1,17 +1,11 @@
 -- The words are taken one by one, and each number is the one that its word writes.
 use Rattle.std.proofs.Common.{◌≡◌, [], ◌∷◌, ◌++◌, ℤ, vec_items, ap, ◌∙◌, rules, Ok, Err, length, ◌+◌, w64, to_z, of_z}
-use Rattle.std.specs.Str.Iter.{split_whitespace_rest}
 use Rattle.std.specs.Str.Parse.{signed_digits_value}
 use Rattle.std.proofs.lemmas.Int.{to_z-of_z}
 use Rattle.fit_line.specs.declared.words.TextFault.TheVariants.{Word}
 use Rattle.fit_line.specs.Words.{Writes}
-use Rattle.fit_line.proofs.Sofar.{none_yet, first_of, one_more, no_more, blamed, counted}
+use Rattle.fit_line.proofs.Sofar.{first_of, one_more, blamed, counted}
 use Rattle.fit_line.proofs.words.numbers_of.Goals as goal
-
-pub loop-word-init : goal.loop-word-init
-loop-word-init c =
-    let whole = ap split_whitespace_rest c.into_iter-word-iterator.ensures.into_iter_gives ∙ c.split_whitespace-word-items.ensures.rest in
-    rw whole (none_yet c.args.text.now _ c.new-numbers.ensures.items)
 
 pub loop-word-preserved : goal.loop-word-preserved
 loop-word-preserved c =
@@ -29,5 +23,3 @@ returns-in_err-number c =
     let fault : c.from_residual.result ≡ Err (Word (length c.loop-word.numbers.items + 1)) = search rules in
     rw fault (blamed c.loop-word.invariant _ first wrong (ap (λ n. n + 1) (counted c.loop-word.invariant)))
 
-pub returns : goal.returns
-returns c = no_more c.loop-word.invariant c.in-None.ensures.steps.1

@@ -1,5 +1,5 @@
 -- The code's numbers are those of the line, and its indices those of the places beside.
-use Rattle.std.proofs.Common.{◌≡◌, ◌≤◌, ◌-◌, get_or, length, min, pos, arith, w64, SFits, rules}
+use Rattle.std.proofs.Common.{◌≡◌, ◌-◌, get_or, length, pos, w64, SFits, rules}
 use mir.Syntax.{w128}
 use Rattle.std.proofs.lemmas.Int.{to_z-of_z}
 use Rattle.line.specs.Line.{OnLine}
