@@ -1,14 +1,12 @@
 -- A word more of a text.
-use Rattle.std.proofs.Common.{◌≡◌, ℕ, ◌+◌, ◌<◌, List, [], ◌∷◌, ◌++◌, map, length, ℤ, IsErrAnd, Ok, Err, Result, sym, refl, ap, ◌∙◌, subst, MatchResult}
+use Rattle.std.proofs.Common.{◌≡◌, ℕ, ◌+◌, ◌<◌, List, [], ◌∷◌, ◌++◌, map, length, ℤ, sym, refl, ap, ◌∙◌, subst}
 use Rattle.std.specs.Str.Parse.{signed_digits_value}
 use Rattle.std.specs.Char.{is_whitespace, is_not_whitespace}
 use Rattle.std.specs.Str.{NoCharPasses, EmptyOrStartsWithPassing}
 use Rattle.std.specs.List.{AllByRecursion}
 use Rattle.std.proofs.ByRecursion.{All-append}
 use Rattle.std.proofs.lemmas.List.{map-append, length-map}
-use Rattle.fit_line.specs.declared.words.TextFault.{TextFault}
-use Rattle.fit_line.specs.declared.words.TextFault.TheVariants.{Memory}
-use Rattle.fit_line.specs.Words.{First, Begins, Writes, LineOf, Blames, Blamed}
+use Rattle.fit_line.specs.Words.{First, Begins, Writes, Blames}
 
 -- what `split_whitespace` says of an item
 pub first_of : (text word rest : List ℕ) → (gap : List ℕ) × (text ≡ gap ++ (word ++ rest)) × (0 < length word) × NoCharPasses is_not_whitespace gap × NoCharPasses is_whitespace word × ((more : List ℕ) × EmptyOrStartsWithPassing is_whitespace rest more) → First text word rest
@@ -26,9 +24,6 @@ pub record Sofar (text rest : List ℕ) (numbers : List ℤ) : Type 0 where
   pub values : numbers ≡ map (signed_digits_value 10) seen
   pub begins : Begins text seen rest
 
-pub none_yet : (text : List ℕ) (numbers : List ℤ) → numbers ≡ [] → Sofar text text numbers
-none_yet text numbers e = record { seen = []; write = tt; values = e; begins = refl }
-
 module _ {text rest : List ℕ} {numbers : List ℤ} (old : Sofar text rest numbers) where
   pub one_more : {word next : List ℕ} {more : List ℤ} → First rest word next → Writes word → more ≡ numbers ++ (signed_digits_value 10 word ∷ []) → Sofar text next more
   one_more {word} {next} {more} first writes e = record {
@@ -41,9 +36,6 @@ module _ {text rest : List ℕ} {numbers : List ℤ} (old : Sofar text rest numb
   pub counted : length numbers ≡ length old.seen
   counted = ap length old.values ∙ length-map old.seen (signed_digits_value 10)
 
-  pub no_more : NoCharPasses is_not_whitespace rest → LineOf text numbers
-  no_more none = record { words = old.seen; rest = rest; begins = old.begins; ends = none; write = old.write; values = old.values }
-
   pub blamed : {word next : List ℕ} (place : ℕ) → First rest word next → (Writes word → ⊥) → place ≡ length old.seen + 1 → Blames text place
   blamed {word} {next} place first wrong counted = record {
     earlier = old.seen;
@@ -54,8 +46,3 @@ module _ {text rest : List ℕ} {numbers : List ℤ} (old : Sofar text rest numb
     counted = counted;
     wrong = wrong;
   }
-
--- where memory fails, nothing is said of the text
-pub no_memory : {A : Type 0} (text : List ℕ) (P : A → Type 0) (r : Result A TextFault) → IsErrAnd r (λ fault. fault ≡ Memory) → MatchResult r P (Blamed text)
-no_memory text P (Ok v) h = absurd h
-no_memory text P (Err fault) h = subst (Blamed text) (sym h) tt

@@ -18,13 +18,12 @@ fn show_worked(rt: &HostRuntime) -> anyhow::Result<()> {
 
 // Each file in turn, or standard input.
 fn show_given(rt: &HostRuntime) -> anyhow::Result<()> {
-    let mut named = false;
-    for path in env::args(rt)?.skip(1) {
-        named = true;
-        show_text(rt, path.as_str(), source::file_text(rt, path.as_str()))?;
+    let mut paths = env::args(rt)?.skip(1).peekable();
+    if paths.peek().is_none() {
+        return show_text(rt, "standard input", source::input_text(rt));
     }
-    if !named {
-        show_text(rt, "standard input", source::input_text(rt))?;
+    for path in paths {
+        show_text(rt, path.as_str(), source::file_text(rt, path.as_str()))?;
     }
     Ok(())
 }

@@ -4,16 +4,18 @@ ghost use Rattle.fit_line.specs.declared.words.TextFault.TheVariants.{Memory};
 ghost use Rattle.fit_line.specs.Words.{LineOf, Blamed};
 
 use std::alloc::{AllocFailed, Global};
+use thiserror::Error;
 
-// Why a text is no line of numbers.
-#[derive(Drop)]
+// Why a text is no line of numbers; words are counted from 1.
+#[derive(Debug, Drop, Error)]
 pub(crate) enum TextFault {
-    // This word, counted from 1, is not a whole number of 64 bits.
+    #[error("word {0} is not a whole number of 64 bits")]
     Word(usize),
-    // There is no memory for the numbers.
+    #[error("no memory")]
     Memory,
 }
 
+// Written out, since the contract rests on its `from_gives`.
 impl From<AllocFailed<i64>> for TextFault {
     ghost from_gives = { λ _ fault. fault ≡ Memory };
 
@@ -28,10 +30,9 @@ pub(crate) fn numbers_of(heap: Global, text: &str) -> Result<Vec<i64>, TextFault
 {
     let mut numbers = Vec::new(heap);
     for word in text.split_whitespace() {
-        match word.parse::<i64>() {
-            Ok(number) => numbers.push(number)?,
-            Err(_) => return Err(TextFault::Word(numbers.len() + 1)),
-        }
+        let place = numbers.len() + 1;
+        let number = word.parse().map_err(|_| TextFault::Word(place))?;
+        numbers.push(number)?;
     }
     Ok(numbers)
 }

@@ -1,21 +1,30 @@
 -- What the checks say of a line.
-use Rattle.std.proofs.Common.{◌≡◌, ℕ, zero, suc, ◌+◌, ◌-◌, ◌<◌, ◌≤◌, Bool, true, false, cond, ◌&&◌, eqb, leb, List, [], ◌∷◌, length, get_or, drop, ℤ, pos, nat_abs, Ok, Err, refl, ◌∙◌, arith}
-use Rattle.std.proofs.lemmas.List.{at_drop_more, at_drop_all}
-use Rattle.std.proofs.lemmas.Bool.{leb-true, eqb-true, cond-true, cond-false}
+use Rattle.std.proofs.Common.{◌≡◌, ℕ, zero, suc, ◌+◌, ◌-◌, ◌<◌, ◌≤◌, Bool, true, false, cond, ◌&&◌, eqb, leb, List, [], ◌∷◌, length, get_or, ℤ, pos, nat_abs, Ok, Err, Result, Option, Some, None, not, refl, sym, ap, ◌∙◌, arith}
+use Rattle.std.specs.List.{position, position_from}
+use Rattle.std.proofs.lemmas.Iterator.Adapters.{position_from-zero}
+use Rattle.std.proofs.lemmas.Bool.{leb-true, eqb-true}
+use Rattle.line.specs.declared.solver.SolveFault.{SolveFault}
 use Rattle.line.specs.declared.solver.SolveFault.TheVariants.{Length, Output, Beyond}
 use Rattle.line.specs.Solver.{Admitted, limit}
 use Rattle.line.specs.Solve.{first_beyond, solve_answer}
 
--- a loop over the line
+-- the first index beyond the limit
 
-pub beyond_here : (k : List ℤ) (i : ℕ) → i < length k → leb (nat_abs (get_or k i (pos 0))) limit ≡ false → first_beyond (i + 1) (drop i k) ≡ Err (Beyond (i + 1))
-beyond_here k i h e = at_drop_more (first_beyond (i + 1)) k i (pos 0) h ∙ cond-false (leb (nat_abs (get_or k i (pos 0))) limit) _ _ e
+abbrev pub refusal : Option ℕ → Result (Unit {0}) SolveFault
+refusal (Some i) = Err (Beyond (i + 1))
+refusal None = Ok tt
 
-pub beyond_later : (k : List ℤ) (i : ℕ) → i < length k → leb (nat_abs (get_or k i (pos 0))) limit ≡ true → first_beyond (i + 1) (drop i k) ≡ first_beyond (i + 1 + 1) (drop (i + 1) k)
-beyond_later k i h e = at_drop_more (first_beyond (i + 1)) k i (pos 0) h ∙ cond-true (leb (nat_abs (get_or k i (pos 0))) limit) _ _ e
+beyond_from : (k : List ℤ) (j : ℕ) → first_beyond (j + 1) k ≡ refusal (position_from (λ v. not (leb (nat_abs v) limit)) j k)
+beyond_from [] j = refl
+beyond_from (x ∷ k) j = by (leb (nat_abs x) limit) (beyond_from k (j + 1))
+  where
+    by : (b : Bool) → first_beyond (j + 1 + 1) k ≡ refusal (position_from (λ v. not (leb (nat_abs v) limit)) (j + 1) k) →
+        cond b (first_beyond (j + 1 + 1) k) (Err (Beyond (j + 1))) ≡ refusal (cond (not b) (Some j) (position_from (λ v. not (leb (nat_abs v) limit)) (j + 1) k))
+    by true rest = rest
+    by false rest = refl
 
-pub beyond_never : (k : List ℤ) (i : ℕ) → length k ≤ i → first_beyond (i + 1) (drop i k) ≡ Ok tt
-beyond_never k i h = at_drop_all (first_beyond (i + 1)) k i h
+pub beyond : (k : List ℤ) → first_beyond 1 k ≡ refusal (position (λ v. not (leb (nat_abs v) limit)) k)
+beyond k = beyond_from k 0 ∙ ap refusal (sym (position_from-zero (λ v. not (leb (nat_abs v) limit)) k))
 
 -- an accepted line
 
@@ -27,7 +36,7 @@ all_within (x ∷ k) i e j h = by (leb (nat_abs x) limit) (leb-true (nat_abs x) 
         cond b (first_beyond (i + 1) k) (Err (Beyond i)) ≡ Ok tt → (j : ℕ) → j < length (x ∷ k) → nat_abs (get_or (x ∷ k) j (pos 0)) ≤ limit
     by true small rest e zero h = small refl
     by true small rest e (suc j) h = rest e j (omega arith)
-    by false small rest e j h = let z : ◌≡◌ {A = ℕ} 0 1 = cc in absurd (omega arith)
+    by false small rest e j h = cc
 
 pub record Accepted (k : List ℤ) (room : ℕ) : Type 0 where
   pub admitted : Admitted k
@@ -42,6 +51,6 @@ accepted k room = by (leb 2 (length k)) (leb (length k) 64) (eqb room (length k)
       admitted = record { low = p refl; high = q refl; small = λ j on. all_within k 1 e (j - 1) (omega arith) };
       fits = r refl;
     }
-    by true true false p q r e = let z : ◌≡◌ {A = ℕ} 0 1 = cc in absurd (omega arith)
-    by true false c p q r e = let z : ◌≡◌ {A = ℕ} 0 1 = cc in absurd (omega arith)
-    by false b c p q r e = let z : ◌≡◌ {A = ℕ} 0 1 = cc in absurd (omega arith)
+    by true true false p q r e = cc
+    by true false c p q r e = cc
+    by false b c p q r e = cc

@@ -2,13 +2,14 @@
 use Rattle.std.proofs.Common.{◌≡◌, ℕ, suc, ◌+◌, ◌-◌, ◌*◌, ◌^◌, ◌<◌, ◌≤◌, ◌≢◌, List, [], ◌∷◌, ◌++◌, map, length, get_or, take, set, ℤ, pos, ◌-ℤ◌, ◌*ℤ◌, nat_abs, sym, refl, ap, ◌∙◌, subst, ap₂, add-one, arith, w64, to_z, of_z}
 use native.Mathlib.Decide.{dec_le}
 use lib.Signed.{mag}
-use Rattle.std.specs.List.{range_with_len}
-use Rattle.std.proofs.lemmas.List.{take_more_set, same_lists, get_or-set_same, get_or-set_other, take_all, get_or_default}
+use Rattle.std.specs.List.{range_with_len, IsLastAndRest}
+use Rattle.std.proofs.Math.Seq.{get_or-append_seam}
+use Rattle.std.proofs.lemmas.List.{get_or_append_left, take_more_set, same_lists, get_or-set_same, get_or-set_other, take_all, get_or_default}
 use Rattle.std.proofs.lemmas.List.FromFn.{map-range_with_len_more, length-map-range_with_len, get_or-map-range_with_len}
 use Rattle.std.proofs.lemmas.Int.{to_z-of_z}
 use Rattle.line.specs.Line.{Within}
 use Rattle.line.specs.Solver.{limit}
-use Rattle.line.specs.FixedPoint.{scale, denominator, fraction, nearest}
+use Rattle.line.specs.FixedPoint.{scale, fraction, nearest}
 use Rattle.line.specs.Pivot.{pivot}
 use Rattle.line.specs.Elimination.{forward, back, backs, fine, forward_limit, back_limit}
 use Rattle.line.specs.Sweeps.{forward_small, back_small}
@@ -26,22 +27,27 @@ pub forward_none : (k : List ℤ) → forward k 0 ≡ pos 0
 unfolding forward
 forward_none k = refl
 
--- a turn at index j, with the pivot w and g as the code holds it
-module _ (k : List ℤ) (small : Within limit k) (j : ℕ) (on : j < length k) (w g : ℤ) (third : 3 * nat_abs w ≤ denominator) (before : g ≡ forward k j) where
-  pub forward_ready : (3 * nat_abs (to_z w64 (of_z w64 w)) ≤ denominator) × ((nat_abs (to_z w64 (of_z w64 (get_or k j (pos 0)))) ≤ limit) × (nat_abs g ≤ forward_limit))
-  forward_ready =
-      let sample = at_index k limit small j on in (
-        rw (same64 w (omega arith)) third,
-        (rw (same64 (get_or k j (pos 0)) (omega arith)) sample, rw before (forward_small k small j (omega arith))),
-      )
+-- a turn at index j, with g and the number v of the line as the code holds them
+module _ (k : List ℤ) (small : Within limit k) (j : ℕ) (on : j < length k) (g v : ℤ) (before : g ≡ forward k j) (here : v ≡ get_or k j (pos 0)) where
+  sample : nat_abs v ≤ limit
+  sample = rw here (at_index k limit small j on)
 
-  pub forward_more : (r : ℤ) → w ≡ pos (pivot (length k) (j + 1)) → r ≡ fraction (to_z w64 (of_z w64 w)) (pos (6 * scale) *ℤ to_z w64 (of_z w64 (get_or k j (pos 0))) -ℤ g) → mag r < 2 ^ 63 →
-      to_z w64 (of_z w64 r) ≡ forward k (j + 1)
+  pub forward_ready : (nat_abs (to_z w64 (of_z w64 v)) ≤ limit) × (nat_abs g ≤ forward_limit)
+  forward_ready = (rw (same64 v (omega (arith, sample))) sample, rw before (forward_small k small j (omega arith)))
+
+  pub forward_more : (w r : ℤ) → w ≡ pos (pivot (length k) (j + 1)) → r ≡ fraction w (pos (6 * scale) *ℤ to_z w64 (of_z w64 v) -ℤ g) → mag r < 2 ^ 63 → to_z w64 (of_z w64 r) ≡ forward k (j + 1)
   unfolding forward
-  forward_more r p h fits =
-      let sample = at_index k limit small j on in
-      let here : suc j - 1 ≡ j = omega arith in
-      to_z-of_z w64 r (record { sfits = fits }) ∙ h ∙ rw (same64 w (omega arith), same64 (get_or k j (pos 0)) (omega arith), p, before, add-one j, here)
+  forward_more w r p h fits =
+      let index : suc j - 1 ≡ j = omega arith in
+      to_z-of_z w64 r (record { sfits = fits }) ∙ h ∙ rw (same64 v (omega (arith, sample)), p, before, add-one j, index, here)
+
+-- the parts that `split_last` gives
+module _ (k rest : List ℤ) (last : ℤ) (cut : IsLastAndRest k last rest) where
+  pub at_rest : (j : ℕ) → j < length rest → get_or rest j (pos 0) ≡ get_or k j (pos 0)
+  at_rest j h = rw cut.0 (sym (get_or_append_left rest (last ∷ []) (pos 0) j h))
+
+  pub at_last : (j : ℕ) → j ≡ length rest → last ≡ get_or k j (pos 0)
+  at_last j e = rw (cut.0, e) (sym (get_or-append_seam rest last [] (pos 0)))
 
 pub filled_more : (f : ℕ → ℤ) (out : List ℤ) (j : ℕ) (v : ℤ) → j < length out → take j out ≡ map f (range_with_len 1 j) → v ≡ f (j + 1) →
     take (j + 1) (set out j v) ≡ map f (range_with_len 1 (j + 1))
@@ -80,19 +86,18 @@ module _ (g out : List ℤ) (j : ℕ) (some : 0 < j) (on : j ≤ length g) (befo
   pub read_small : nat_abs (get_or out (j - 1) (pos 0)) ≤ forward_limit
   read_small = rw (before (j - 1) (omega arith)) (at_index g forward_limit small (j - 1) (omega arith))
 
-  pub back_ready : (w x : ℤ) → 3 * nat_abs w ≤ denominator → x ≡ back g (length g - j) →
-      (3 * nat_abs (to_z w64 (of_z w64 w)) ≤ denominator) × ((nat_abs (to_z w64 (of_z w64 (get_or out (j - 1) (pos 0)))) ≤ forward_limit) × (nat_abs x ≤ back_limit))
-  back_ready w x third e = (
-    rw (same64 w (omega arith)) third,
-    (rw (same64 (get_or out (j - 1) (pos 0)) (omega (arith, read_small))) read_small, rw e (back_small g (omega arith) small (length g - j) (omega arith))),
+  pub back_ready : (x : ℤ) → x ≡ back g (length g - j) → (nat_abs (to_z w64 (of_z w64 (get_or out (j - 1) (pos 0)))) ≤ forward_limit) × (nat_abs x ≤ back_limit)
+  back_ready x e = (
+    rw (same64 (get_or out (j - 1) (pos 0)) (omega (arith, read_small))) read_small,
+    rw e (back_small g (omega arith) small (length g - j) (omega arith)),
   )
 
-  pub step_is : (w x r : ℤ) → 3 * nat_abs w ≤ denominator → (j < length g → w ≡ pos (pivot (length g) j)) → x ≡ back g (length g - j) →
-      r ≡ to_z w64 (of_z w64 (get_or out (j - 1) (pos 0))) -ℤ fraction (to_z w64 (of_z w64 w)) x → mag r < 2 ^ 63 → to_z w64 (of_z w64 r) ≡ back g (length g - (j - 1))
-  step_is w x r third p e h fits =
+  pub step_is : (w x r : ℤ) → (j < length g → w ≡ pos (pivot (length g) j)) → x ≡ back g (length g - j) → r ≡ to_z w64 (of_z w64 (get_or out (j - 1) (pos 0))) -ℤ fraction w x → mag r < 2 ^ 63 →
+      to_z w64 (of_z w64 r) ≡ back g (length g - (j - 1))
+  step_is w x r p e h fits =
       to_z-of_z w64 r (record { sfits = fits }) ∙
       back_more g j _ x r some on (same64 (get_or out (j - 1) (pos 0)) (omega (arith, read_small)) ∙ before (j - 1) (omega arith)) e
-      (h ∙ ap (λ v. to_z w64 (of_z w64 (get_or out (j - 1) (pos 0))) -ℤ v) (ap (λ (v : ℤ). fraction v x) (same64 w (omega arith)) ∙ any_last g j w x on e p))
+      (h ∙ ap (λ v. to_z w64 (of_z w64 (get_or out (j - 1) (pos 0))) -ℤ v) (any_last g j w x on e p))
 
 module _ (g out : List ℤ) (j : ℕ) (y : ℤ) (some : 0 < j) (on : j ≤ length g) (long : length out ≡ length g) where
   pub kept_below : ((k : ℕ) → k < j → get_or out k (pos 0) ≡ get_or g k (pos 0)) → (k : ℕ) → k < j - 1 → get_or (set out (j - 1) y) k (pos 0) ≡ get_or g k (pos 0)

@@ -2,9 +2,9 @@
 use Rattle.std.specs.Prelude.{ℕ, ◌+◌, ◌*◌, ◌<◌, ◌≤◌, ℤ, pos, negsuc, ◌-ℤ◌, ◌*ℤ◌, ◌≤ℤ◌, unsigned_abs}
 use Rattle.std.proofs.Common.{arith}
 use Rattle.std.specs.Int.Signed.{shr_z}
-use Rattle.std.proofs.lemmas.Int.{ints}
+use Rattle.std.proofs.lemmas.Int.{ints, unsigned_abs-mul}
 use Rattle.std.proofs.lemmas.Nat.{div-add-mod', mod_below, mul-le}
-use Rattle.line.specs.Products.{abs-*, cancel-<}
+use Rattle.line.specs.Products.{cancel-<}
 
 -- m floor(z / m) is less than m below z
 pub floor_near : (z : ℤ) (m : ℕ) → 0 < m → unsigned_abs (pos m *ℤ shr_z z m -ℤ z) < m
@@ -27,4 +27,4 @@ third_size w b q above h =
     apart a b m near = omega (arith, ints)
 
     size : (v : ℤ) → unsigned_abs (pos q *ℤ v -ℤ w *ℤ b) < q → q * unsigned_abs v < q + unsigned_abs w * unsigned_abs b
-    size v near = omega (arith, abs-* (pos q) v, abs-* w b, apart (pos q *ℤ v) (w *ℤ b) q near)
+    size v near = omega (arith, unsigned_abs-mul (pos q) v, unsigned_abs-mul w b, apart (pos q *ℤ v) (w *ℤ b) q near)

@@ -1,5 +1,5 @@
 -- Numbers made from a line, linear in the line.
-use Rattle.std.specs.Prelude.{◌≡◌, ℕ, zero, suc, Bool, true, false, cond, ℤ, ◌+ℤ◌, ◌-ℤ◌, ◌*ℤ◌, refl}
+use Rattle.std.specs.Prelude.{◌≡◌, ℕ, zero, suc, ℤ, ◌+ℤ◌, ◌-ℤ◌, ◌*ℤ◌, refl}
 use Rattle.std.proofs.Common.{arith, sym, ap, ap₂, ◌∙◌}
 use Rattle.std.proofs.Math.IntN.{ -ℤ-+ℤ_cancel}
 use Rattle.std.proofs.Math.Path.{fun_ext}
@@ -27,15 +27,8 @@ at_crosses p = record { over = λ f l m. refl }
 pub add_crosses : {g h : Form} → Crosses g → Crosses h → Crosses (λ x. g x +ℤ h x)
 add_crosses {g} {h} p q = record { over = λ f l m. l.adds (λ i. g (m i)) (λ i. h (m i)) ∙ ap₂ ◌+ℤ◌ (p.over f l m) (q.over f l m) }
 
-pub sub_crosses : {g h : Form} → Crosses g → Crosses h → Crosses (λ x. g x -ℤ h x)
-sub_crosses {g} {h} p q = record { over = λ f l m. subtracts l (λ i. g (m i)) (λ i. h (m i)) ∙ ap₂ ◌-ℤ◌ (p.over f l m) (q.over f l m) }
-
 pub scale_crosses : {g : Form} (c : ℤ) → Crosses g → Crosses (λ x. c *ℤ g x)
 scale_crosses {g} c p = record { over = λ f l m. l.scales c (λ i. g (m i)) ∙ ap (◌*ℤ◌ c) (p.over f l m) }
-
-pub cond_crosses : {g h : Form} (b : Bool) → Crosses g → Crosses h → Crosses (λ x. cond b (g x) (h x))
-cond_crosses true p q = p
-cond_crosses false p q = q
 
 pub linear : {g : Form} → Crosses g → Linear g
 linear {g} h = record {

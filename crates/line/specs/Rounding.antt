@@ -1,9 +1,9 @@
 -- A line X in finer units, m to one, and the line x of its numbers rounded to nearest.
 use Rattle.std.specs.Prelude.{ℕ, ◌+◌, ◌*◌, ◌<◌, ◌≤◌, ℤ, pos, ◌-ℤ◌, ◌*ℤ◌, unsigned_abs}
 use Rattle.std.proofs.Common.{arith}
-use Rattle.std.proofs.lemmas.Int.{ints}
+use Rattle.std.proofs.lemmas.Int.{ints, unsigned_abs-mul}
 use Rattle.line.specs.Line.{OnLine, Sums}
-use Rattle.line.specs.Products.{together, abs-*, abs_scaled, cancel-<}
+use Rattle.line.specs.Products.{together, abs_scaled, cancel-<}
 use Rattle.line.specs.Linear.{Linear, subtracts}
 
 -- All weights of a row come to at most 6: a sum is at most six times as great as the line.
@@ -14,7 +14,7 @@ module _ {n : ℕ} {sums : Sums} (along : (j : ℕ) → Linear (λ x. sums x j))
   -- rounding moves a sum by at most 3 units
   sums_rounded : (j : ℕ) → OnLine n j → unsigned_abs (pos m *ℤ sums x j -ℤ sums X j) ≤ 3 * m
   sums_rounded j on =
-      let twice = six (λ i. pos 2 *ℤ (pos m *ℤ x i -ℤ X i)) j m on (λ i at. omega (arith, abs-* (pos 2) (pos m *ℤ x i -ℤ X i), rounded i at)) in
+      let twice = six (λ i. pos 2 *ℤ (pos m *ℤ x i -ℤ X i)) j m on (λ i at. omega (arith, unsigned_abs-mul (pos 2) (pos m *ℤ x i -ℤ X i), rounded i at)) in
       omega (arith, ints, (along j).scales (pos 2) (λ i. pos m *ℤ x i -ℤ X i), subtracts (along j) (λ i. pos m *ℤ x i) X, (along j).scales (pos m) x)
 
   -- residuals below c units in the finer line are below c + 3 in the rounded one

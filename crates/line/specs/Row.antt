@@ -2,11 +2,11 @@
 use Rattle.std.specs.Prelude.{◌≡◌, ℕ, ◌+◌, ◌*◌, ◌≤◌, ℤ, pos, ◌+ℤ◌, ◌-ℤ◌, ◌*ℤ◌, unsigned_abs}
 use Rattle.std.proofs.Common.{arith, sym, ◌∙◌}
 use Rattle.std.proofs.Math.Path.{ap}
-use Rattle.std.proofs.lemmas.Int.{ints}
+use Rattle.std.proofs.lemmas.Int.{ints, unsigned_abs-mul}
 use Rattle.std.proofs.lemmas.Nat.{mul-le}
 use Rattle.line.specs.FixedPoint.{denominator}
 use Rattle.line.specs.Ring.{*-sub}
-use Rattle.line.specs.Products.{together, pos-*, pos_add-*, *-left_comm, abs-*}
+use Rattle.line.specs.Products.{together, pos-*, pos_add-*, *-left_comm}
 
 -- products stand as plain numbers here: f is the defect of the row before, h that of the row's own two steps, times its divisor
 gathered : (u v y dx wx dwy δy : ℤ) → dx +ℤ wx ≡ pos denominator *ℤ v → dwy +ℤ δy ≡ pos (denominator * denominator) *ℤ y →
@@ -65,5 +65,5 @@ module _ (c d w w₀ D δ : ℕ) (k g g₀ x x₀ x₂ : ℤ) (some : 1 ≤ c)
       (gathered (x₀ -ℤ g₀) (pos d *ℤ x) y (pos D *ℤ x) (pos w₀ *ℤ x) (pos D *ℤ (pos w *ℤ y)) (pos δ *ℤ y) x_part y_part ∙ ap (λ v. (pos denominator *ℤ (pos denominator *ℤ (x₀ -ℤ g₀) +ℤ pos w₀ *ℤ x) +ℤ v) -ℤ pos δ *ℤ y) (sym defect_times))
       some
       (rw (*-sub (pos denominator) x₀ g₀) before)
-      (rw (abs-* (pos D) defect) (omega (arith, mul-le D (unsigned_abs defect) (5 * denominator) (2 * c * denominator) high defect_small)))
-      (rw (abs-* (pos δ) y) (omega (arith, mul-le δ (unsigned_abs y) (5 * denominator) (unsigned_abs y) left (omega arith), y_small))))
+      (rw (unsigned_abs-mul (pos D) defect) (omega (arith, mul-le D (unsigned_abs defect) (5 * denominator) (2 * c * denominator) high defect_small)))
+      (rw (unsigned_abs-mul (pos δ) y) (omega (arith, mul-le δ (unsigned_abs y) (5 * denominator) (unsigned_abs y) left (omega arith), y_small))))

@@ -3,51 +3,44 @@
 //     g 1 = k 1 w 1,  g j = (k j - g (j - 1)) w j,
 //     x n = g n,  x j = g j - w j x (j + 1),
 // in finer units, 65,536 to one, each x rounded to the nearest whole number at the end.
-ghost use Rattle.std.specs.Prelude.{◌≡◌, ◌*◌, ◌≤◌, List, length, ℤ, pos, ◌-ℤ◌, ◌*ℤ◌, Ok, unsigned_abs, refl};
+ghost use Rattle.std.specs.Prelude.{◌≡◌, ◌*◌, ◌^◌, ◌≤◌, List, length, ℤ, pos, ◌-ℤ◌, ◌*ℤ◌, Ok, unsigned_abs, refl};
 ghost use Rattle.line.specs.Line.{Within};
 ghost use Rattle.line.specs.Solver.{Admitted, WholeSolution, limit};
 ghost use Rattle.line.specs.Solve.{solve_answer, solve_after};
-ghost use Rattle.line.specs.FixedPoint.{scale, denominator, fraction};
+ghost use Rattle.line.specs.FixedPoint.{scale, fraction, nearest};
 ghost use Rattle.line.specs.Elimination.{forwards, backs, forward_limit, back_limit, elimination};
 ghost use Rattle.line.specs.Eliminated;
 
-use crate::fixed::{part_of, rounded};
-use crate::pivot::{inner_pivot, last_pivot};
+use crate::pivot::Pivot;
 use crate::solver::{LineSolver, SolveFault, accept};
 
-// Finer units in six.
+// Finer units in six, and in a half.
 const SIX: i64 = 6 * 65_536;
 
-// What the row of k has left for it, in finer units, once g stands before it.
-fn right_side(k: i64, g: i64) -> i64
-    requires { (unsigned_abs k ≤ limit) × (unsigned_abs g ≤ forward_limit) }
-    ensures { result ≡ pos (6 * scale) *ℤ k -ℤ g }
-{
-    SIX * k - g
-}
+const HALF: i64 = 32_768;
 
 // g j, from the pivot w j, the number k j of the line and g (j - 1).
-fn forward_step(w: i64, k: i64, g: i64) -> i64
-    requires { (3 * unsigned_abs w ≤ denominator) × ((unsigned_abs k ≤ limit) × (unsigned_abs g ≤ forward_limit)) }
-    ensures { result ≡ fraction w (pos (6 * scale) *ℤ k -ℤ g) }
+fn forward_step(pivot: Pivot, k: i64, g: i64) -> i64
+    requires { (unsigned_abs k ≤ limit) × (unsigned_abs g ≤ forward_limit) }
+    ensures { result ≡ fraction pivot.w (pos (6 * scale) *ℤ k -ℤ g) }
 {
-    part_of(w, right_side(k, g))
-}
-
-// What is left of g once its neighbour's part is taken away.
-fn left_over(g: i64, part: i64) -> i64
-    requires { (unsigned_abs g ≤ forward_limit) × (unsigned_abs part ≤ back_limit) }
-    ensures { result ≡ g -ℤ part }
-{
-    g - part
+    pivot.part_of(SIX * k - g)
 }
 
 // x j, from the pivot w j, g j and x (j + 1).
-fn back_step(w: i64, g: i64, x: i64) -> i64
-    requires { (3 * unsigned_abs w ≤ denominator) × ((unsigned_abs g ≤ forward_limit) × (unsigned_abs x ≤ back_limit)) }
-    ensures { result ≡ g -ℤ fraction w x }
+fn back_step(pivot: Pivot, g: i64, x: i64) -> i64
+    requires { (unsigned_abs g ≤ forward_limit) × (unsigned_abs x ≤ back_limit) }
+    ensures { result ≡ g -ℤ fraction pivot.w x }
 {
-    left_over(g, part_of(w, x))
+    g - pivot.part_of(x)
+}
+
+// The whole number nearest to v finer units.
+fn rounded(v: i64) -> i64
+    requires { unsigned_abs v ≤ 2 ^ 62 }
+    ensures { result ≡ nearest scale v }
+{
+    (v + HALF) >> 16
 }
 
 // Leaves the numbers g in the output line.
@@ -55,13 +48,14 @@ fn sweep_forward(line: &[i64], out: &mut [i64])
     requires { (Admitted line.now) × (length out.old ≡ length line.now) }
     ensures { out.new ≡ forwards line.now }
 {
-    let last = line.len() - 1;
+    let (last, before) = line.split_last().unwrap();
     let mut g = 0;
-    for j in 0..last {
-        g = forward_step(inner_pivot(j + 1), line[j], g);
+    // Written by index: after `zip(out.iter_mut())` a proof knows none of the numbers.
+    for (j, k) in before.iter().enumerate() {
+        g = forward_step(Pivot::inner(j + 1), *k, g);
         out[j] = g;
     }
-    out[last] = forward_step(last_pivot(last + 1), line[last], g);
+    out[before.len()] = forward_step(Pivot::last(line.len()), *last, g);
 }
 
 // Turns the numbers g of the line into the numbers x, rounded. Beyond the last x stands 0, so any pivot serves there.
@@ -70,8 +64,9 @@ fn sweep_back(out: &mut [i64])
     ensures { out.new ≡ backs out.old }
 {
     let mut x = 0;
+    // By index: after `iter_mut().rev()` a proof knows none of the numbers, and each costs two instructions more.
     for j in (0..out.len()).rev() {
-        x = back_step(inner_pivot(j + 1), out[j], x);
+        x = back_step(Pivot::inner(j + 1), out[j], x);
         out[j] = rounded(x);
     }
 }

@@ -2,7 +2,6 @@
 #![tactic(auto)]
 
 pub mod elimination;
-mod fixed;
 pub mod laws;
 mod pivot;
 pub mod residual;

@@ -1,6 +1,6 @@
 // The pivots of a line, in parts of 2^60, by tables: w j = 1 / (diagonal j - w (j - 1)).
-ghost use Rattle.std.specs.Prelude.{◌≡◌, ℕ, ◌*◌, ◌<◌, ◌≤◌, pos, unsigned_abs};
-ghost use Rattle.line.specs.FixedPoint.{denominator};
+ghost use Rattle.std.specs.Prelude.{◌≡◌, ℕ, ◌*◌, ◌^◌, ◌<◌, ◌≤◌, pos, unsigned_abs};
+ghost use Rattle.line.specs.FixedPoint.{denominator, fraction};
 ghost use Rattle.line.specs.Pivot.{pivot};
 
 // Of the rows 0 to 64 in a line that goes on after them; row 0 is the 0 before the line.
@@ -141,20 +141,35 @@ const LAST: [i64; 65] = [
     243640981783787756,
 ];
 
-// The pivot of row j in every line that goes on after it.
-pub(crate) fn inner_pivot(j: usize) -> i64
-    requires { j ≤ 64 }
-    ensures value { (n : ℕ) → j < n → n ≤ 64 → result ≡ pos (pivot n j) }
-    ensures small { 3 * unsigned_abs result ≤ denominator }
-{
-    INNER[j]
+// A pivot, in parts of 2^60: at most a third.
+#[derive(Clone, Copy)]
+pub(crate) struct Pivot {
+    w: i64,
+    ghost small: { 3 * unsigned_abs w ≤ denominator },
 }
 
-// The pivot of the last row in a line of n.
-pub(crate) fn last_pivot(n: usize) -> i64
-    requires { n ≤ 64 }
-    ensures value { result ≡ pos (pivot n n) }
-    ensures small { 3 * unsigned_abs result ≤ denominator }
-{
-    LAST[n]
+impl Pivot {
+    // The pivot of row j in every line that goes on after it.
+    pub(crate) fn inner(j: usize) -> Pivot
+        requires { j ≤ 64 }
+        ensures { (n : ℕ) → j < n → n ≤ 64 → result.w ≡ pos (pivot n j) }
+    {
+        Pivot { w: INNER[j] }
+    }
+
+    // The pivot of the last row in a line of n.
+    pub(crate) fn last(n: usize) -> Pivot
+        requires { n ≤ 64 }
+        ensures { result.w ≡ pos (pivot n n) }
+    {
+        Pivot { w: LAST[n] }
+    }
+
+    // Its part of b, rounded down.
+    pub(crate) fn part_of(self, b: i64) -> i64
+        requires { unsigned_abs b ≤ 2 ^ 62 }
+        ensures { result ≡ fraction self.w b }
+    {
+        ((i128::from(self.w) * i128::from(b)) >> 60) as i64
+    }
 }

@@ -1,7 +1,9 @@
 // What a line solver is, which lines every solver refuses, and the numbers of the refusals.
-ghost use Rattle.std.specs.Prelude.{◌≡◌, ℕ, length, nat_le, unsigned_abs};
+ghost use Rattle.std.specs.Prelude.{◌≡◌, ℕ, length, position, not, nat_le, unsigned_abs};
 ghost use Rattle.line.specs.Solver.{Solver, Sound, limit};
 ghost use Rattle.line.specs.Solve.{fault_number, solve_answer, solve_after, first_beyond};
+
+use thiserror::Error;
 
 // How many numbers a line has at least and at most, and the greatest of them either way.
 pub const SHORTEST: usize = 2;
@@ -11,13 +13,16 @@ pub const LONGEST: usize = 64;
 pub const LIMIT: i64 = 5_000_000;
 
 // Why a line is refused.
-#[derive(Clone, Copy, PartialEq, Eq, Debug)]
+#[derive(Clone, Copy, PartialEq, Eq, Debug, Error)]
 pub enum SolveFault {
     // The line has fewer than 2 or more than 64 numbers.
+    #[error("a line has {} to {} numbers", SHORTEST, LONGEST)]
     Length,
     // The output line has another length.
+    #[error("the answer needs as many places as the line")]
     Output,
     // The number at this place, counted from 1, is the first that lies beyond 5,000,000 either way.
+    #[error("that number lies beyond {} either way", LIMIT)]
     Beyond(usize),
 }
 
@@ -58,7 +63,7 @@ pub trait LineSolver {
 pub fn accept(line: &[i64], room: usize) -> Result<(), SolveFault>
     ensures { result ≡ solve_answer line.now room }
 {
-    if line.len() < SHORTEST || line.len() > LONGEST {
+    if !(SHORTEST..=LONGEST).contains(&line.len()) {
         return Err(SolveFault::Length);
     }
     if room != line.len() {
@@ -71,16 +76,15 @@ pub fn accept(line: &[i64], room: usize) -> Result<(), SolveFault>
 fn within_limit(line: &[i64]) -> Result<(), SolveFault>
     ensures { result ≡ first_beyond 1 line.now }
 {
-    for i in 0..line.len() {
-        if !is_within(line[i]) {
-            return Err(SolveFault::Beyond(i + 1));
-        }
+    match index_beyond(line) {
+        Some(i) => Err(SolveFault::Beyond(i + 1)),
+        None => Ok(()),
     }
-    Ok(())
 }
 
-fn is_within(v: i64) -> bool
-    ensures { result ≡ nat_le (unsigned_abs v) limit }
+// The first index whose number lies beyond the limit.
+fn index_beyond(line: &[i64]) -> Option<usize>
+    ensures { result ≡ position (λ v. not (nat_le (unsigned_abs v) limit)) line.now }
 {
-    v >= -LIMIT && v <= LIMIT
+    line.iter().position(|v| !(-LIMIT..=LIMIT).contains(v))
 }

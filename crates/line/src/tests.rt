@@ -6,14 +6,9 @@ use crate::residual::residual_at;
 use crate::solver::{LineSolver, SolveFault};
 use std::process::Abort;
 
-fn two(line: [i64; 2]) -> Result<[i64; 2], SolveFault> {
-    let mut out = [9; 2];
-    Elimination.solve(&line, &mut out)?;
-    Ok(out)
-}
-
-fn three(line: [i64; 3]) -> Result<[i64; 3], SolveFault> {
-    let mut out = [9; 3];
+// The answer for a line of N numbers.
+fn solved<const N: usize>(line: [i64; N]) -> Result<[i64; N], SolveFault> {
+    let mut out = [9; N];
     Elimination.solve(&line, &mut out)?;
     Ok(out)
 }
@@ -21,9 +16,9 @@ fn three(line: [i64; 3]) -> Result<[i64; 3], SolveFault> {
 // The line is refused with this number, and an output line of three nines keeps them.
 fn refused(rt: &impl Abort, line: &[i64], fault: SolveFault, number: u8) {
     let mut out = [9; 3];
-    assert!(rt; Elimination.solve(line, &mut out) == Err(fault));
-    assert!(rt; fault.number() == number);
-    assert!(rt; out == [9; 3]);
+    assert_eq!(rt; Elimination.solve(line, &mut out), Err(fault));
+    assert_eq!(rt; fault.number(), number);
+    assert_eq!(rt; out, [9; 3]);
 }
 
 // A line of n equal numbers at the limit is its own solution; nothing is written past it.
@@ -32,24 +27,24 @@ fn level(rt: &impl Abort, n: usize, height: i64)
 {
     let line = [height; 65];
     let mut out = [9; 65];
-    assert!(rt; Elimination.solve(&line[0..n], &mut out[0..n]) == Ok(()));
-    assert!(rt; out[0] == height);
-    assert!(rt; out[n - 1] == height);
-    assert!(rt; out[n] == 9);
+    assert_eq!(rt; Elimination.solve(&line[0..n], &mut out[0..n]), Ok(()));
+    assert_eq!(rt; out[0], height);
+    assert_eq!(rt; out[n - 1], height);
+    assert_eq!(rt; out[n], 9);
 }
 
 #[test]
 fn worked_lines(rt: HostRuntime) {
-    assert!(rt; two([7, 7]) == Ok([7, 7]));
-    assert!(rt; two([4, 0]) == Ok([5, -1]));
-    assert!(rt; three([15, 0, 0]) == Ok([19, -5, 1]));
-    assert!(rt; three([0, 15, 0]) == Ok([-5, 25, -5]));
+    assert_eq!(rt; solved([7, 7]), Ok([7, 7]));
+    assert_eq!(rt; solved([4, 0]), Ok([5, -1]));
+    assert_eq!(rt; solved([15, 0, 0]), Ok([19, -5, 1]));
+    assert_eq!(rt; solved([0, 15, 0]), Ok([-5, 25, -5]));
 }
 
 // Its exact solution is (1/2, 7/2), so both residuals are 3: no lower grade holds.
 #[test]
 fn worst_residuals(rt: HostRuntime) {
-    assert!(rt; two([1, 3]) == Ok([1, 4]));
+    assert_eq!(rt; solved([1, 3]), Ok([1, 4]));
 }
 
 #[test]
@@ -70,8 +65,9 @@ fn outputs(rt: HostRuntime) {
 
 #[test]
 fn limits(rt: HostRuntime) {
-    assert!(rt;
-        three([5_000_000, -5_000_000, 5_000_000]) == Ok([8_333_333, -11_666_667, 8_333_333])
+    assert_eq!(rt;
+        solved([5_000_000, -5_000_000, 5_000_000]),
+        Ok([8_333_333, -11_666_667, 8_333_333])
     );
     refused(&rt, &[5_000_001, 0, 0], SolveFault::Beyond(1), 3);
     refused(&rt, &[0, 0, -5_000_001], SolveFault::Beyond(3), 3);
@@ -80,12 +76,15 @@ fn limits(rt: HostRuntime) {
 
 #[test]
 fn residuals(rt: HostRuntime) {
-    assert!(rt; residual_at(&[1, 4], &[1, 3], 1) == Some(3));
-    assert!(rt; residual_at(&[1, 4], &[1, 3], 2) == Some(3));
-    assert!(rt; residual_at(&[1, 4], &[1, 3], 0) == None);
-    assert!(rt; residual_at(&[1, 4], &[1, 3], 3) == None);
-    assert!(rt; residual_at(&[1, 4], &[1, 3, 5], 1) == None);
+    assert_eq!(rt; residual_at(&[1, 4], &[1, 3], 1), Some(3));
+    assert_eq!(rt; residual_at(&[1, 4], &[1, 3], 2), Some(3));
+    assert_eq!(rt; residual_at(&[1, 4], &[1, 3], 0), None);
+    assert_eq!(rt; residual_at(&[1, 4], &[1, 3], 3), None);
+    assert_eq!(rt; residual_at(&[1, 4], &[1, 3, 5], 1), None);
     let high = i64::MAX;
     let low = i64::MIN;
-    assert!(rt; residual_at(&[high, high], &[low, low], 1) == Some(110_680_464_442_257_309_690));
+    assert_eq!(rt;
+        residual_at(&[high, high], &[low, low], 1),
+        Some(110_680_464_442_257_309_690)
+    );
 }

@@ -18,7 +18,7 @@ pub extern "C" fn line_eliminate(line: &[i64], out: &mut [i64]) -> u32
 {
     match Elimination.solve(line, out) {
         Ok(()) => 0,
-        Err(fault) => fault.number() as u32,
+        Err(fault) => u32::from(fault.number()),
     }
 }
 

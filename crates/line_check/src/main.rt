@@ -7,23 +7,20 @@ mod tally;
 
 use line::elimination::Elimination;
 use line::solver::LineSolver;
+use lines::random_lines;
 use random::Random;
 use std::io;
 use tally::Tally;
 
 // A family's name and what came of its lines.
 fn show(rt: &impl Print, name: &str, tally: &Tally) -> io::Result<()> {
-    let lines = tally.lines;
-    let places = tally.places;
-    let missed = tally.missed;
-    println!(rt; "{name}: {lines} lines, {places} places, beyond the grade {missed}")
+    println!(rt; "{name}: {tally}")
 }
 
 // The same, and the worst residual: only where exact fractions settle it beforehand.
 fn show_worst(rt: &impl Print, name: &str, tally: &Tally) -> io::Result<()> {
     show(rt, name, tally)?;
-    let worst = tally.worst;
-    println!(rt; "  worst residual {worst}")
+    println!(rt; "  worst residual {}", tally.worst)
 }
 
 fn main(rt: HostRuntime) -> io::Result<()> {
@@ -33,6 +30,8 @@ fn main(rt: HostRuntime) -> io::Result<()> {
     show_worst(&rt, "alternating", &lines::alternating())?;
     show_worst(&rt, "single peak", &lines::single_peak())?;
     let mut random = Random::new(1);
-    show(&rt, "random signs", &lines::random_signs(&mut random))?;
-    show(&rt, "random numbers", &lines::random_numbers(&mut random))
+    let signs = random_lines(&mut random, Random::extreme);
+    show(&rt, "random signs", &signs)?;
+    let numbers = random_lines(&mut random, Random::number);
+    show(&rt, "random numbers", &numbers)
 }

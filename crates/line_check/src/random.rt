@@ -1,4 +1,5 @@
 // A seeded generator, so that every run has the same lines.
+use line::solver::{LIMIT, LONGEST};
 
 #[derive(Drop)]
 pub(crate) struct Random {
@@ -11,42 +12,31 @@ impl Random {
     }
 
     // The next 31 bits of a linear congruence.
-    fn bits(&mut self) -> u64 {
+    fn bits(&mut self) -> u32 {
         self.state = self
             .state
             .wrapping_mul(6364136223846793005)
             .wrapping_add(1442695040888963407);
-        self.state >> 33
+        (self.state >> 33) as u32
     }
 
     // A number from -5,000,000 to 5,000,000.
-    fn number(&mut self) -> i64 {
-        (self.bits() % 10_000_001) as i64 - 5_000_000
+    pub(crate) fn number(&mut self) -> i64 {
+        i64::from(self.bits() % 10_000_001) - LIMIT
     }
 
     // 5,000,000 or its negative.
-    fn extreme(&mut self) -> i64 {
-        if self.bits() % 2 == 0 {
-            5_000_000
-        } else {
-            -5_000_000
-        }
+    pub(crate) fn extreme(&mut self) -> i64 {
+        if self.bits() % 2 == 0 { LIMIT } else { -LIMIT }
     }
 
-    // 64 such numbers.
-    pub(crate) fn numbers(&mut self) -> [i64; 64] {
-        let mut line = [0; 64];
-        for i in 0..64usize {
-            line[i] = self.number();
-        }
-        line
-    }
-
-    // 64 such extremes.
-    pub(crate) fn extremes(&mut self) -> [i64; 64] {
-        let mut line = [0; 64];
-        for i in 0..64usize {
-            line[i] = self.extreme();
+    // 64 numbers, drawn one after the other.
+    pub(crate) fn line<F: Fn(&mut Random) -> i64>(&mut self, draw: &F) -> [i64; LONGEST]
+        requires { F.IsAlwaysCallable draw.now }
+    {
+        let mut line = [0; LONGEST];
+        for number in line.iter_mut() {
+            *number = draw(self);
         }
         line
     }

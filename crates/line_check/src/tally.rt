@@ -2,37 +2,36 @@
 ghost use Rattle.std.specs.Prelude.{◌≡◌, ◌<◌, ◌≤◌, length};
 
 use line::elimination::Elimination;
-use line::solver::LineSolver;
+use line::solver::{LONGEST, LineSolver};
+use std::fmt;
 
 // How many lines and places came, the worst residual, and how many places missed the grade.
-#[derive(Drop)]
+#[derive(Default, Drop)]
 pub(crate) struct Tally {
-    pub(crate) lines: u32,
-    pub(crate) places: u32,
+    lines: u32,
+    places: u32,
     pub(crate) worst: u64,
-    pub(crate) missed: u32,
+    missed: u32,
+}
+
+impl fmt::Display for Tally {
+    fn fmt<W: fmt::Write>(&self, f: &mut fmt::Formatter<W>) -> fmt::Result {
+        write!(f, "{} lines, {} places, ", self.lines, self.places)?;
+        write!(f, "beyond the grade {}", self.missed)
+    }
 }
 
 impl Tally {
-    pub(crate) fn new() -> Tally {
-        Tally {
-            lines: 0,
-            places: 0,
-            worst: 0,
-            missed: 0,
-        }
-    }
-
     // Solves a line of at most 64 numbers and counts it; one that is refused counts as missed.
     pub(crate) fn take(&mut self, line: &[i64])
-        requires { length line.now ≤ 64 }
+        requires { length line.now ≤ LONGEST }
     {
-        let mut room = [0; 64];
-        let answer = &mut room[0..line.len()];
+        let mut room = [0; LONGEST];
+        let answer = &mut room[..line.len()];
         self.lines = self.lines.saturating_add(1);
         match Elimination.solve(line, answer) {
             Ok(()) => self.weigh(line, answer),
-            Err(_) => self.missed = self.missed.saturating_add(1),
+            Err(_) => self.miss(),
         }
     }
 
@@ -40,11 +39,11 @@ impl Tally {
     fn weigh(&mut self, line: &[i64], answer: &[i64])
         requires { length answer.now ≡ length line.now }
     {
-        for i in 0..line.len() {
+        for (i, number) in line.iter().enumerate() {
             self.places = self.places.saturating_add(1);
-            match residual(line, answer, i) {
+            match residual(*number, answer, i) {
                 Some(r) => self.note(r.unsigned_abs()),
-                None => self.missed = self.missed.saturating_add(1),
+                None => self.miss(),
             }
         }
     }
@@ -52,24 +51,24 @@ impl Tally {
     fn note(&mut self, size: u64) {
         self.worst = self.worst.max(size);
         if size > u64::from(Elimination::GRADE) {
-            self.missed = self.missed.saturating_add(1);
+            self.miss();
         }
+    }
+
+    fn miss(&mut self) {
+        self.missed = self.missed.saturating_add(1);
     }
 }
 
 // The number before, four times its own and the number after, the ends doubled, less six times the line's; none if that overflows.
-fn residual(line: &[i64], answer: &[i64], i: usize) -> Option<i64>
-    requires { (i < length line.now) × (length answer.now ≡ length line.now) }
+fn residual(number: i64, answer: &[i64], i: usize) -> Option<i64>
+    requires { i < length answer.now }
 {
-    let before = if i == 0 { answer[0] } else { answer[i - 1] };
-    let after = if i + 1 < answer.len() {
-        answer[i + 1]
-    } else {
-        answer[i]
-    };
-    let sum = answer[i]
-        .checked_mul(4)?
+    let own = answer[i];
+    let before = answer[i.saturating_sub(1)];
+    let after = answer.get(i + 1).copied().unwrap_or(own);
+    own.checked_mul(4)?
         .checked_add(before)?
-        .checked_add(after)?;
-    sum.checked_sub(line[i].checked_mul(6)?)
+        .checked_add(after)?
+        .checked_sub(number.checked_mul(6)?)
 }

@@ -13,27 +13,23 @@ loop-j-init c = (sym (back_none c.args.out.now _ (omega arith)), λ k h. refl, �
 
 pub back_step-x-requires : goal.back_step-x-requires
 back_step-x-requires c =
-    back_ready c.args.out.now c.loop-j.out c.loop-j.j c.loop-j-test.true c.loop-j.auto.j c.loop-j.invariant.1 c.requires.1
-    c.inner_pivot.result _ c.inner_pivot.ensures.small c.loop-j.invariant.0
+    back_ready c.args.out.now c.loop-j.out c.loop-j.j c.loop-j-test.true c.loop-j.auto.j c.loop-j.invariant.1 c.requires.1 _ c.loop-j.invariant.0
+
+step : (c : goal.After-back_step-x) → to_z w64 (of_z w64 c.back_step-x.result) ≡ back c.args.out.now (length c.args.out.now - (c.loop-j.j - 1))
+step c =
+    step_is c.args.out.now c.loop-j.out c.loop-j.j c.loop-j-test.true c.loop-j.auto.j c.loop-j.invariant.1 c.requires.1 c.inner.result.w _ c.back_step-x.result
+    (λ below. c.inner.ensures (length c.args.out.now) (omega arith) c.requires.0 ∙ ap (λ (i : ℕ). pos (pivot (length c.args.out.now) i)) (omega arith))
+    c.loop-j.invariant.0 c.back_step-x.ensures c.back_step-x.type_inv
 
 pub rounded-requires : goal.rounded-requires
 rounded-requires c =
-    rw (step_is c.args.out.now c.loop-j.out c.loop-j.j c.loop-j-test.true c.loop-j.auto.j c.loop-j.invariant.1 c.requires.1
-    c.inner_pivot.result _ c.back_step-x.result c.inner_pivot.ensures.small
-    (λ below. c.inner_pivot.ensures.value (length c.args.out.now) (omega arith) c.requires.0 ∙ ap (λ (i : ℕ). pos (pivot (length c.args.out.now) i)) (omega arith))
-    c.loop-j.invariant.0 c.back_step-x.ensures c.back_step-x.type_inv)
-    (omega (arith, back_small c.args.out.now (omega arith) c.requires.1 (length c.args.out.now - (c.loop-j.j - 1)) (omega arith)))
+    rw (step c) (omega (arith, back_small c.args.out.now (omega arith) c.requires.1 (length c.args.out.now - (c.loop-j.j - 1)) (omega arith)))
 
 pub loop-j-preserved : goal.loop-j-preserved
 loop-j-preserved c =
-    let step =
-    step_is c.args.out.now c.loop-j.out c.loop-j.j c.loop-j-test.true c.loop-j.auto.j c.loop-j.invariant.1 c.requires.1
-    c.inner_pivot.result _ c.back_step-x.result c.inner_pivot.ensures.small
-    (λ below. c.inner_pivot.ensures.value (length c.args.out.now) (omega arith) c.requires.0 ∙ ap (λ (i : ℕ). pos (pivot (length c.args.out.now) i)) (omega arith))
-    c.loop-j.invariant.0 c.back_step-x.ensures c.back_step-x.type_inv in
     let here : to_z w64 (of_z w64 c.rounded.result) ≡ nearest scale (back c.args.out.now (length c.args.out.now - (c.loop-j.j - 1))) =
-    to_z-of_z w64 c.rounded.result (record { sfits = c.rounded.type_inv }) ∙ c.rounded.ensures ∙ ap (nearest scale) step in (
-      step,
+    to_z-of_z w64 c.rounded.result (record { sfits = c.rounded.type_inv }) ∙ c.rounded.ensures ∙ ap (nearest scale) (step c.before) in (
+      step c.before,
       kept_below c.args.out.now c.loop-j.out c.loop-j.j _ c.loop-j-test.true c.loop-j.auto.j c.loop-j.auto.out c.loop-j.invariant.1,
       done_above c.args.out.now c.loop-j.out c.loop-j.j _ c.loop-j-test.true c.loop-j.auto.j c.loop-j.auto.out here c.loop-j.invariant.2,
     )
