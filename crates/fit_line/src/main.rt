@@ -2,11 +2,12 @@
 #![tactic(auto)]
 
 mod report;
-mod source;
 mod words;
 
-use report::{show_line, show_text};
-use std::env;
+use input::start_of;
+use report::{LONGEST_TEXT, show_line, show_text};
+use std::io::Read;
+use std::{env, fs, io};
 
 // Lines whose solution is known by hand.
 fn show_worked(rt: &HostRuntime) -> anyhow::Result<()> {
@@ -16,14 +17,23 @@ fn show_worked(rt: &HostRuntime) -> anyhow::Result<()> {
     show_line(rt, "worked", &[0, 15, 0])
 }
 
+// The bytes of a text; one more than the limit if it is longer.
+fn text_of<R: Read + Drop>(rt: &HostRuntime, source: R) -> io::Result<Vec<u8>> {
+    start_of(rt.alloc(), source, LONGEST_TEXT + 1)
+}
+
+fn text_of_file(rt: &HostRuntime, path: &str) -> io::Result<Vec<u8>> {
+    text_of(rt, fs::open(rt, path)?)
+}
+
 // Each file in turn, or standard input.
 fn show_given(rt: &HostRuntime) -> anyhow::Result<()> {
     let mut paths = env::args(rt)?.skip(1).peekable();
     if paths.peek().is_none() {
-        return show_text(rt, "standard input", source::input_text(rt));
+        return show_text(rt, "standard input", text_of(rt, rt.stdin()));
     }
     for path in paths {
-        show_text(rt, path.as_str(), source::file_text(rt, path.as_str()))?;
+        show_text(rt, path.as_str(), text_of_file(rt, path.as_str()))?;
     }
     Ok(())
 }

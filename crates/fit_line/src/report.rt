@@ -1,5 +1,4 @@
 // What is shown of a line: the solver's answer, its residuals and its grade, or why the line is refused.
-use crate::source::LONGEST_TEXT;
 use crate::words::{TextFault, numbers_of};
 use line::elimination::Elimination;
 use line::residual::residual_at;
@@ -7,6 +6,9 @@ use line::solver::{LineSolver, SolveFault};
 use std::io;
 use std::str::from_utf8;
 use thiserror::Error;
+
+// The longest text that is taken, in bytes.
+pub(crate) const LONGEST_TEXT: usize = 4096;
 
 // The longest word that is shown, in bytes.
 const LONGEST_WORD: usize = 40;

@@ -1,10 +1,9 @@
 -- Steps of the code that walks a lane.
 use Rattle.std.proofs.Common.{◌≡◌, ℕ, zero, suc, ◌+◌, ◌-◌, ◌*◌, ◌<◌, ◌≤◌, List, length, get_or, set, ℤ, pos, ◌*ℤ◌, nat_abs, Ok, Err, refl, ap, ◌∙◌, mul-le-mul, add-one, arith, w32, w64, SFits, to_z, of_z, rules}
-use Rattle.std.proofs.lemmas.Int.{ints, to_z-of_z}
+use Rattle.std.proofs.lemmas.Int.{ints, to_z-of_z, unsigned_abs-mul}
 use Rattle.std.proofs.lemmas.List.Edits.{fill_by_more}
 use Rattle.line.specs.Line.{place}
 use Rattle.line.specs.Solve.{solve_answer}
-use Rattle.line.specs.Products.{abs-*}
 use Rattle.panel_fault.specs.declared.PanelFault.{PanelFault}
 use Rattle.panel.specs.Calls.{Answer, solver_took, solver_takes}
 use Rattle.line.specs.Solver.{Solver, Sound, limit}
@@ -17,7 +16,7 @@ use Rattle.grid.specs.Sample.{with_part}
 pub scaled_fits : (n : ℕ) (x : ℤ) → n ≤ 16 → SFits w32 x → SFits w64 (pos n *ℤ x)
 scaled_fits n x h f =
     let p : nat_abs x ≤ 2147483648 = omega (arith, ints) in
-    let q : nat_abs (pos n *ℤ x) ≤ 16 * 2147483648 = omega (arith, abs-* (pos n) x, mul-le-mul h p) in
+    let q : nat_abs (pos n *ℤ x) ≤ 16 * 2147483648 = omega (arith, unsigned_abs-mul (pos n) x, mul-le-mul h p) in
     go (pos n *ℤ x) q
   where
     go : (z : ℤ) → nat_abs z ≤ 16 * 2147483648 → SFits w64 z

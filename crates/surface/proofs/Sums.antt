@@ -1,10 +1,9 @@
 -- Sums of weighed numbers stay within 64 bits.
 use Rattle.std.proofs.Common.{◌≡◌, ℕ, zero, suc, ◌*◌, ◌%◌, ◌^◌, ◌<◌, ◌≤◌, Bool, true, cond, leb, List, [], ◌∷◌, get_or, ℤ, pos, ◌+ℤ◌, ◌*ℤ◌, nat_abs, Some, None, refl, sym, ap, ◌∙◌, mul-le-mul, arith, w32, w64, SFits, to_z, of_z}
 use lib.Signed.{mag}
-use Rattle.std.proofs.lemmas.Int.{ints, to_z-of_z}
+use Rattle.std.proofs.lemmas.Int.{ints, to_z-of_z, unsigned_abs-mul, fits_signed_from_abs}
 use Rattle.std.proofs.lemmas.Bool.{leb-true}
-use Rattle.line.proofs.Casts.{fits64, same64}
-use Rattle.line.specs.Products.{abs-*}
+use Rattle.line.proofs.Casts.{same64}
 use Rattle.surface.specs.Surface.{weight, rounded}
 use Rattle.surface.specs.Products.{Low, products, products_of}
 use Rattle.surface.specs.Patch.{reach, rows_within, weights_at, point, sum_around, patch_reading}
@@ -15,7 +14,7 @@ use Rattle.surface.proofs.Readings.{blend_rows}
 -- a product, as the code computes it
 module _ (w n : ℤ) (w_low : nat_abs w ≤ 131072) (n_low : nat_abs n ≤ 8388608000000) where
   product_low : nat_abs (w *ℤ n) ≤ 1099511627776000000
-  product_low = omega (arith, abs-* w n, mul-le-mul w_low n_low)
+  product_low = omega (arith, unsigned_abs-mul w n, mul-le-mul w_low n_low)
 
   factors : to_z w64 (of_z w64 w) *ℤ to_z w64 (of_z w64 n) ≡ w *ℤ n
   factors =
@@ -24,7 +23,7 @@ module _ (w n : ℤ) (w_low : nat_abs w ≤ 131072) (n_low : nat_abs n ≤ 83886
       rw (p, q)
 
   pub product_fits : SFits w64 (to_z w64 (of_z w64 w) *ℤ to_z w64 (of_z w64 n))
-  product_fits = rw factors (fits64 (w *ℤ n) (omega (arith, product_low)))
+  product_fits = rw factors (fits_signed_from_abs w64 (w *ℤ n) (omega (arith, product_low)))
 
   pub product_is : to_z w64 (of_z w64 (to_z w64 (of_z w64 w) *ℤ to_z w64 (of_z w64 n))) ≡ w *ℤ n
   product_is = rw factors (same64 (w *ℤ n) (omega (arith, product_low)))
@@ -40,7 +39,7 @@ products_low w n m w_low n_low = together (at 0) (at 1) (at 2) (at 3) (131072 * 
     at b = get_or w b (pos 0) *ℤ get_or n b (pos 0)
 
     each : (b : ℕ) → b < 4 → nat_abs (at b) ≤ 131072 * m
-    each b h = rw (abs-* (get_or w b (pos 0)) (get_or n b (pos 0))) (mul-le-mul (w_low b h) (n_low b h))
+    each b h = rw (unsigned_abs-mul (get_or w b (pos 0)) (get_or n b (pos 0))) (mul-le-mul (w_low b h) (n_low b h))
 
     together : (a b c d : ℤ) (k : ℕ) → nat_abs a ≤ k → nat_abs b ≤ k → nat_abs c ≤ k → nat_abs d ≤ k → nat_abs (((a +ℤ b) +ℤ c) +ℤ d) ≤ 4 * k
     together a b c d k p q r s = omega (arith, ints)

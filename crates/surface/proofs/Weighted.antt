@@ -1,8 +1,8 @@
 -- Sums of n terms with weights that are not negative.
 use Rattle.std.proofs.Common.{◌≡◌, ℕ, zero, suc, ◌+◌, ◌*◌, ◌<◌, ◌≤◌, ℤ, pos, ◌+ℤ◌, ◌-ℤ◌, ◌*ℤ◌, nat_abs, refl, ap, mul-le-mul_left, arith}
-use Rattle.std.proofs.lemmas.Int.{ints}
+use Rattle.std.proofs.lemmas.Int.{ints, unsigned_abs-mul}
 use Rattle.line.specs.Ring.{*-add, *-sub}
-use Rattle.line.specs.Products.{*-left_comm, pos-*, abs-*, abs_add}
+use Rattle.line.specs.Products.{*-left_comm, pos-*, abs_add}
 
 abbrev pub total : ℕ → (ℕ → ℕ) → ℕ
 total zero w = 0
@@ -35,7 +35,7 @@ weighted_within zero w v k m h = omega arith
 weighted_within (suc n) w v k m h =
     let before = weighted_within n w v k m (λ i q. h i (omega arith)) in
     let last = mul-le-mul_left (w n) (h n (omega arith)) in
-    omega (arith, mul-le-mul_left k (abs_add (weighted n w v) (pos (w n) *ℤ v n)), ap (◌*◌ k) (abs-* (pos (w n)) (v n)))
+    omega (arith, mul-le-mul_left k (abs_add (weighted n w v) (pos (w n) *ℤ v n)), ap (◌*◌ k) (unsigned_abs-mul (pos (w n)) (v n)))
 
 -- if k times the distance of d * x from y is within m at each term, so it is of the sums, times the weights
 pub weighted_near : (n : ℕ) (w : ℕ → ℕ) (x y : ℕ → ℤ) (k d m : ℕ) → ((i : ℕ) → i < n → k * nat_abs (pos d *ℤ x i -ℤ y i) ≤ m) →
