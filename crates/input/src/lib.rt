@@ -24,7 +24,10 @@ mod tests {
     #[test]
     fn no_more_than_the_limit(rt: HostRuntime) -> Result<(), Fail> {
         let source: &[u8] = b"some bytes";
-        assert_eq!(rt; start_of(rt.alloc(), source, 4)?.as_slice(), b"some".as_slice());
+        assert_eq!(rt;
+            start_of(rt.alloc(), source, 4)?.as_slice(),
+            b"some".as_slice()
+        );
         assert_eq!(rt; start_of(rt.alloc(), source, 10)?.as_slice(), source);
         assert_eq!(rt; start_of(rt.alloc(), source, 99)?.as_slice(), source);
         assert_eq!(rt; start_of(rt.alloc(), source, 0)?.len(), 0);

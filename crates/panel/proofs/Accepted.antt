@@ -1,5 +1,5 @@
 -- On a panel that calls have reached no solver refuses.
-use Rattle.std.proofs.Common.{◌≡◌, ℕ, zero, suc, ◌+◌, ◌<◌, Bool, ◌&&◌, ℤ, refl, ap, ◌∙◌, ap₂, arith}
+use Rattle.std.proofs.Common.{◌≡◌, ℕ, ◌+◌, ℤ, ap, ◌∙◌, arith}
 use Rattle.std.specs.Result.{result_and}
 use Rattle.grid.specs.Checks.{check}
 use Rattle.grid.specs.Grid.{Grid}

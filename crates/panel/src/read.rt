@@ -28,7 +28,8 @@ impl Panel {
     fn has_in_area(&self, x: i32, y: i32) -> bool
         ensures { result ≡ in_area self.now x y }
     {
-        is_between(x, 32, last_before(self.size.rows)) && is_between(y, 32, last_before(self.size.columns))
+        is_between(x, 32, last_before(self.size.rows))
+            && is_between(y, 32, last_before(self.size.columns))
     }
 
     // The second lines through the sixteen control points around a place.

@@ -77,9 +77,7 @@ impl<K: Sample> View<'_, K> {
     {
         let mut sample = self.controls[0];
         for k in 0..K::PARTS {
-            let part = self
-                .part_reading(k + 1)
-                .ok_or(PanelFault::ControlBeyond)?;
+            let part = self.part_reading(k + 1).ok_or(PanelFault::ControlBeyond)?;
             sample = sample.replace_part(k + 1, part);
         }
         Ok(sample)

@@ -47,8 +47,10 @@ impl Random {
 
 // The first parts of a grid, added up.
 fn sum_of<K: Sample>(grid: &[K]) -> i64 {
-    grid.iter()
-        .fold(0i64, |sum, sample| sum.wrapping_add(i64::from(sample.part(1))))
+    grid.iter().fold(
+        0i64,
+        |sum, sample| sum.wrapping_add(i64::from(sample.part(1))),
+    )
 }
 
 // Readings at random places.

@@ -112,10 +112,7 @@ fn parts_of_probes(rt: HostRuntime) -> Result<(), Fail> {
     assert_eq!(rt; kit.probe(2, 1, Height(100_000)), Ok(()));
     assert_eq!(rt; kit.probe(2, 3, Height(-100_000)), Ok(()));
     assert_eq!(rt; kit.probe(2, 2, Height(100_001)).err(), beyond(2, 2, 1));
-    assert_eq!(rt;
-        kit.probe(1, 3, Height(-100_001)).err(),
-        beyond(1, 3, 1)
-    );
+    assert_eq!(rt; kit.probe(1, 3, Height(-100_001)).err(), beyond(1, 3, 1));
     assert_eq!(rt;
         kit.samples,
         [

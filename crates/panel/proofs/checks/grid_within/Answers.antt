@@ -1,7 +1,7 @@
 use Rattle.std.proofs.Common.{[], map, sym, ap, ◌∙◌, arith}
 use Rattle.std.proofs.lemmas.List.{get_or-map, length-map}
 use Rattle.grid.proofs.Chains.{exit}
-use Rattle.panel.proofs.Walks.{grid_on, grid_out, grid_all}
+use Rattle.panel.proofs.Walks.{grid_on, grid_out}
 use Rattle.panel.proofs.checks.grid_within.Goals as goal
 
 pub returns-in_err-parts_within : goal.returns-in_err-parts_within

@@ -1,7 +1,7 @@
-use Rattle.std.proofs.Common.{leb, nat_abs, ◌+◌, ◌-◌, sym, ap, ◌∙◌, arith, w32, SFits, rules}
+use Rattle.std.proofs.Common.{leb, nat_abs, sym, ap, ◌∙◌, arith, w32, SFits, rules}
 use Rattle.std.proofs.lemmas.Int.{to_z-of_z}
 use Rattle.panel.specs.Calls.{part_limit}
-use Rattle.panel.proofs.Walks.{part_on, part_out, parts_past}
+use Rattle.panel.proofs.Walks.{part_on}
 use Rattle.panel.proofs.checks.parts_within.Goals as goal
 
 pub loop-part-preserved : goal.loop-part-preserved

@@ -1,9 +1,9 @@
-use Rattle.std.proofs.Common.{◌≡◌, ◌+◌, ◌-◌, ◌<◌, length, get_or, take, ap, ◌∙◌, arith}
-use Rattle.std.proofs.lemmas.List.{get_or_past, get_or_default, get_or-take, length-take}
+use Rattle.std.proofs.Common.{◌≡◌, ◌-◌, ap, ◌∙◌, arith}
+use Rattle.std.proofs.lemmas.List.{get_or_past, length-take}
 use Rattle.panel.specs.declared.record.Mark.TheVariants.{Unrun}
 use Rattle.panel.specs.Calls.{mark, grade_of}
 use Rattle.panel.specs.Reading.{greatest}
-use Rattle.panel.proofs.Needed.{greatest_more, greatest_used}
+use Rattle.panel.proofs.Needed.{greatest_used}
 use Rattle.panel.proofs.marks.greatest_grade.Goals as goal
 
 pub returns : goal.returns

@@ -1,5 +1,5 @@
 -- What was solved is the rule's, entry by entry.
-use Rattle.std.proofs.Common.{◌≡◌, map, ◌∙◌, ap}
+use Rattle.std.proofs.Common.{map, ◌∙◌}
 use Rattle.panel.specs.Lane.{laned, column, rule_column}
 use Rattle.panel.proofs.Stored.{stored_same, columns_same}
 use Rattle.panel.proofs.source.fit_line.Goals as goal
@@ -10,4 +10,4 @@ returns-clause-after g c =
     let filled = c.in_ok-solved.ensures.filled in
     c.store.ensures
     ∙ stored_same c.args.source.now.lane (column g.K.Sample.PARTS c.in_ok-solved.solved.parts) (rule_column g.K.Sample.PARTS g.S.LineSolver.meaning.rule lines) (map g.K.Sample.parts c.args.target.now)
-      c.args.source.now.lane.count (λ e h. columns_same g.K.Sample.PARTS c.args.source.now.lane.count g.S.LineSolver.meaning.rule lines c.in_ok-solved.solved.parts filled.1 e h)
+    c.args.source.now.lane.count (λ e h. columns_same g.K.Sample.PARTS c.args.source.now.lane.count g.S.LineSolver.meaning.rule lines c.in_ok-solved.solved.parts filled.1 e h)

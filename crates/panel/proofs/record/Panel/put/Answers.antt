@@ -1,7 +1,6 @@
-use Rattle.std.proofs.Common.{map, sym, refl, ◌∙◌, w32}
+use Rattle.std.proofs.Common.{map, sym, refl, w32}
 use Rattle.std.proofs.lemmas.List.{length-map, map-set}
 use Rattle.std.proofs.lemmas.Int.{to_z-of_z}
-use Rattle.grid.proofs.Chains.{exit}
 use Rattle.panel.proofs.Passed.{probing}
 use Rattle.panel.proofs.record.Panel.put.Goals as goal
 

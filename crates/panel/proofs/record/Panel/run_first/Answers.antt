@@ -1,10 +1,10 @@
-use Rattle.std.proofs.Common.{◌≡◌, map, nat_abs, Ok, Err, sym, refl, ap, ◌∙◌, arith, w32}
+use Rattle.std.proofs.Common.{◌≡◌, map, nat_abs, Ok, Err, sym, refl, ◌∙◌, arith, w32}
 use Rattle.std.proofs.lemmas.List.{length-map}
 use Rattle.std.proofs.lemmas.Int.{to_z-of_z}
 use Rattle.std.proofs.lemmas.Bool.{false≢true}
 use Rattle.grid.proofs.Chains.{exit}
 use Rattle.panel.specs.Calls.{first_lines, first_answer}
-use Rattle.panel.proofs.LineCalls.{numbered, first_past, first_out, first_within, first_takes, first_stored}
+use Rattle.panel.proofs.LineCalls.{numbered, first_past, first_within, first_takes, first_stored}
 use Rattle.panel.proofs.record.Panel.run_first.Goals as goal
 
 pub invariant_of-source : goal.invariant_of-source

@@ -1,4 +1,4 @@
-use Rattle.std.proofs.Common.{◌≡◌, map, nat_abs, Ok, Err, sym, refl, ap, ◌∙◌, arith, w32}
+use Rattle.std.proofs.Common.{◌≡◌, map, nat_abs, Ok, Err, sym, refl, ◌∙◌, arith, w32}
 use Rattle.std.proofs.lemmas.List.{length-map}
 use Rattle.std.proofs.lemmas.Int.{to_z-of_z}
 use Rattle.std.proofs.lemmas.Bool.{false≢true}
@@ -6,7 +6,7 @@ use Rattle.grid.specs.Checks.{check}
 use Rattle.grid.proofs.Chains.{exit}
 use Rattle.panel_fault.specs.declared.PanelFault.TheVariants.{FirstStale}
 use Rattle.panel.specs.Calls.{all_current, first_lines, second_lines, second_answer}
-use Rattle.panel.proofs.LineCalls.{numbered, second_past, second_out, second_stale, second_within, second_takes, second_stored}
+use Rattle.panel.proofs.LineCalls.{numbered, second_past, second_within, second_takes, second_stored}
 use Rattle.panel.proofs.record.Panel.run_second.Goals as goal
 
 pub invariant_of-source : goal.invariant_of-source

@@ -1,4 +1,4 @@
-use Rattle.std.proofs.Common.{set, sym, ◌∙◌, ap, ap₂, add-one}
+use Rattle.std.proofs.Common.{set, ◌∙◌, ap₂, add-one}
 use Rattle.std.proofs.lemmas.List.{map-set}
 use Rattle.panel.specs.Lane.{on_lane}
 use Rattle.panel.proofs.source.Solved.store.Goals as goal

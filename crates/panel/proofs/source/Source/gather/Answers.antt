@@ -3,7 +3,7 @@ use Rattle.std.proofs.lemmas.List.{get_or-map}
 use Rattle.std.proofs.lemmas.List.FromFn.{fill_by_all}
 use Rattle.grid.specs.Sample.{part_of}
 use Rattle.panel.specs.Lane.{on_lane}
-use Rattle.panel.proofs.Lanes.{product_fits, product_is, wrote}
+use Rattle.panel.proofs.Lanes.{product_is, wrote}
 use Rattle.panel.proofs.source.Source.gather.Goals as goal
 
 pub loop-e-preserved : goal.loop-e-preserved

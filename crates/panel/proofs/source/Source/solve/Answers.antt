@@ -1,4 +1,4 @@
-use Rattle.std.proofs.Common.{◌≡◌, ℕ, ◌+◌, ◌-◌, ◌<◌, [], ◌++◌, map, length, get_or, drop, replicate, pos, sym, refl, ap, ◌∙◌, subst, arith, rules, Ok}
+use Rattle.std.proofs.Common.{◌≡◌, ℕ, ◌+◌, ◌-◌, ◌<◌, [], ◌++◌, map, length, get_or, drop, replicate, pos, sym, refl, ap, ◌∙◌, arith, Ok}
 use Rattle.std.proofs.lemmas.List.{get_or-drop, get_or_append_left, length-take}
 use Rattle.std.proofs.lemmas.List.FromFn.{length-map-range_with_len}
 use Rattle.grid.proofs.Chains.{exit}
@@ -65,6 +65,8 @@ invariant_of-result g c = record { narrow = narrow_append c.loop-q.line-items _ 
 
 pub returns-clause-filled : goal.returns-clause-filled
 returns-clause-filled g c =
-    let rows : length c.loop-q.line-items ≡ g.K.Sample.PARTS = omega (arith, c.loop-q.auto.line-items, length-take c.PARTS.result (replicate 4 (replicate 64 (pos 0))), c.PARTS.ensures, g.met.K.Sample.counted.1) in
-    (omega arith, λ q e h l.
-    ap (λ v. get_or v e (pos 0)) (get_or_append_left c.loop-q.line-items _ [] q (omega arith)) ∙ c.loop-q.invariant.filled q e (omega arith) l)
+    let rows : length c.loop-q.line-items ≡ g.K.Sample.PARTS = omega (arith, c.loop-q.auto.line-items, length-take c.PARTS.result (replicate 4 (replicate 64 (pos 0))), c.PARTS.ensures, g.met.K.Sample.counted.1) in (
+      omega arith,
+      λ q e h l.
+          ap (λ v. get_or v e (pos 0)) (get_or_append_left c.loop-q.line-items _ [] q (omega arith)) ∙ c.loop-q.invariant.filled q e (omega arith) l,
+    )

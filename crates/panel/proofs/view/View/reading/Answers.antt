@@ -1,4 +1,4 @@
-use Rattle.std.proofs.Common.{◌≡◌, ◌+◌, ◌≤◌, true, map, get_or, pos, Some, None, Err, refl, sym, ap, ◌∙◌, subst, mul-le-mul, arith, w32, SFits, rules}
+use Rattle.std.proofs.Common.{◌≡◌, ◌+◌, true, map, get_or, pos, Some, None, Err, refl, sym, ap, ◌∙◌, subst, arith, w32, SFits, rules}
 use Rattle.std.proofs.lemmas.List.FromFn.{fill_by_all}
 use Rattle.std.proofs.lemmas.Int.{to_z-of_z}
 use Rattle.surface.specs.Patch.{within_reach}
