@@ -1,4 +1,4 @@
-// The two kinds of sample: a height and a point.
+// The two kinds of sample: a height and a point. Two types and not one over the number of parts: an array would lose the names of the parts.
 ghost use Rattle.std.specs.Prelude.{[], ◌∷◌};
 ghost use Rattle.std.proofs.Common.{rules};
 

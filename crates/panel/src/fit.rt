@@ -57,7 +57,7 @@ impl Panel {
         Ok(())
     }
 
-    // Every second line, in order.
+    // Every second line, in order. No one loop serves both: each call lends other grids, and only one of the two may be written.
     fn fit_second_lines<K: Sample, S: LineSolver>(
         &mut self,
         halves: &[K],

@@ -118,7 +118,8 @@ impl Panel {
         Ok(())
     }
 
-    // A second line with its checks and its writes.
+    // A second line with its checks and its writes. It is no twin of the first: it asks that all first lines are current, and leaves other
+    // marks.
     fn run_second<K: Sample, S: LineSolver>(
         &mut self,
         halves: &[K],

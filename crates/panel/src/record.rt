@@ -20,7 +20,8 @@ pub enum Mark {
     Current(u8),
 }
 
-// The caller keeps the grids and lends them to each call; the panel keeps what is known of them.
+// The caller keeps the grids and lends them to each call; the panel keeps what is known of them. Its marks are as many as there may be lines,
+// since there is no heap.
 #[derive(Drop)]
 pub struct Panel {
     pub(crate) size: GridSize,

@@ -53,6 +53,7 @@ impl<K: Sample> Source<'_, K> {
         ensures after { out.new ≡ if_ok result (S.LineSolver.meaning.rule (laned self.now.scale (map K.Sample.parts self.now.grid.now) self.now.lane part) ++ drop self.now.lane.count out.old) out.old }
     {
         let n = self.lane.count;
+        // As long as a line may be, since there is no heap.
         let mut scratch = [0; 64];
         let line = &mut scratch[..n];
         self.gather(part, line);
@@ -104,6 +105,7 @@ impl Solved {
         requires { (Inside lane (length target.old)) × (lane.count ≤ 64) }
         ensures { map K.Sample.parts target.new ≡ stored lane (column K.Sample.PARTS self.now.parts) lane.count (map K.Sample.parts target.old) }
     {
+        // By entry: a lane is no slice.
         for e in 0..lane.count {
             let at = lane.index(e);
             target[at] = self.at(e, target[at]);

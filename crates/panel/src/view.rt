@@ -50,7 +50,7 @@ impl<K: Sample> View<'_, K> {
         ]
     }
 
-    // One part of the sixteen control points around the place, row by row.
+    // One part of the sixteen control points around the place, row by row; written out as above.
     fn patch(&self, part: usize) -> [[i32; 4]; 4]
         ensures { result ≡ map (λ a. map (around self.now.panel.now (map K.Sample.parts self.now.controls.now) part self.now.x self.now.y a) (range_with_len 0 4)) (range_with_len 0 4) }
     {
