@@ -84,7 +84,7 @@ module _ {n : ℕ} {sums : Sums} (rule : Dominant n sums) where
     where
       -- all sums are within the last, so the last one is above 0 as p a is
       small : (j : ℕ) → OnLine n j → unsigned_abs (sums p j) ≤ unsigned_abs (sums p n)
-      small j at = or_last (λ j. unsigned_abs (sums p j) ≤ unsigned_abs (sums p n)) n (omega arith) j at (λ i. omega (arith, ints, rows_p j at i))
+      small j at = grind arith
 
       last_nonzero : 0 < unsigned_abs (sums p n)
       last_nonzero = omega (arith, dominance p (unsigned_abs (sums p n)) small a on)
