@@ -1,5 +1,5 @@
 -- The steps of the loops of elimination, over lists and numbers alone.
-use Rattle.std.proofs.Common.{◌≡◌, ℕ, suc, ◌+◌, ◌-◌, ◌*◌, ◌^◌, ◌<◌, ◌≤◌, List, [], ◌∷◌, ◌++◌, map, length, get_or, take, set, ℤ, pos, ◌-ℤ◌, ◌*ℤ◌, nat_abs, sym, refl, ap, ◌∙◌, ap₂, add-one, arith, w64, to_z, of_z}
+use Rattle.std.proofs.Common.{◌≡◌, ℕ, suc, ◌+◌, ◌-◌, ◌*◌, ◌^◌, ◌<◌, ◌≤◌, List, [], ◌∷◌, ◌++◌, map, length, get_or, take, set, ℤ, pos, ◌-ℤ◌, ◌*ℤ◌, nat_abs, sym, refl, ap, ◌∙◌, ap₂, arith, w64, to_z, of_z}
 use native.Mathlib.Decide.{dec_le}
 use lib.Signed.{mag}
 use Rattle.std.specs.List.{range_with_len, IsLastAndRest}
@@ -7,6 +7,7 @@ use Rattle.std.proofs.lemmas.List.{take_more_set, same_lists, get_or_default}
 use Rattle.std.proofs.lemmas.List.FromFn.{map-range_with_len_more, length-map-range_with_len, get_or-map-range_with_len}
 use Rattle.std.proofs.lemmas.Grind.{common_steps}
 use Rattle.std.proofs.lemmas.Int.{to_z-of_z}
+use Rattle.std.proofs.lemmas.Bool.Decides.{nat_tests}
 use Rattle.line.specs.Line.{Within}
 use Rattle.line.specs.Solver.{limit}
 use Rattle.line.specs.FixedPoint.{scale, fraction, nearest}
@@ -37,9 +38,7 @@ module _ (k : List ℤ) (small : Within limit k) (j : ℕ) (on : j < length k) (
 
   pub forward_more : (w r : ℤ) → w ≡ pos (pivot (length k) (j + 1)) → r ≡ fraction w (pos (6 * scale) *ℤ to_z w64 (of_z w64 v) -ℤ g) → mag r < 2 ^ 63 → to_z w64 (of_z w64 r) ≡ forward k (j + 1)
   unfolding forward
-  forward_more w r p h fits =
-      let index : suc j - 1 ≡ j = omega arith in
-      to_z-of_z w64 r (record { sfits = fits }) ∙ h ∙ rw (same64 v (omega (arith, sample)), p, before, add-one j, index, here)
+  forward_more w r p h fits = grind (arith, nat_tests)
 
 -- the parts that `split_last` gives
 module _ (k rest : List ℤ) (last : ℤ) (cut : IsLastAndRest k last rest) where

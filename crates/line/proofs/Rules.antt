@@ -32,7 +32,7 @@ sign_abs (negsuc n) = omega (arith, ints)
 
 module _ {n : ℕ} {sums : Sums} (rule : Dominant n sums) where
   pub along : (j : ℕ) → Linear (λ x. sums x j)
-  along j = record { adds = λ x y. rule.adds x y j; scales = λ c x. rule.scales c x j }
+  along j = grind arith
 
   pub dominance : (x : ℕ → ℤ) (g : ℕ) → ((j : ℕ) → OnLine n j → unsigned_abs (sums x j) ≤ g) → (j : ℕ) → OnLine n j → 2 * unsigned_abs (x j) ≤ g
   dominance x g h j on =

@@ -1,8 +1,8 @@
 -- Numbers g and x of the two sweeps, each step of them met within c: then x has the sums k within 12 c.
 use Rattle.std.specs.Prelude.{◌≡◌, ℕ, zero, suc, ◌+◌, ◌*◌, ◌≤◌, ℤ, pos, ◌+ℤ◌, ◌-ℤ◌, ◌*ℤ◌, unsigned_abs}
 use Rattle.std.proofs.Common.{arith, add-one}
-use Rattle.std.proofs.lemmas.Grind.{common_steps}
 use Rattle.std.proofs.lemmas.Int.{ints}
+use Rattle.std.proofs.lemmas.Bool.Decides.{nat_tests}
 use Rattle.line.specs.Line.{OnLine, sum_at}
 use Rattle.line.specs.FixedPoint.{denominator}
 use Rattle.line.specs.Pivot.{diagonal, pivot}
@@ -16,7 +16,7 @@ first_sum n x two = grind arith
 
 later_sum : (n : ℕ) (x : ℕ → ℤ) → x (n + 1) ≡ pos 0 → (i : ℕ) → OnLine n (suc (suc i)) →
     sum_at n x (suc (suc i)) ≡ (x (suc i) +ℤ pos (diagonal n (suc (suc i))) *ℤ x (suc (suc i))) +ℤ x (suc (suc i) + 1)
-later_sum n x end i on = grind (arith, ints, common_steps)
+later_sum n x end i on = grind (arith, nat_tests)
 
 module _ (n c : ℕ) (k g x : ℕ → ℤ) (two : 2 ≤ n) (some : 1 ≤ c) (start : g 0 ≡ pos 0) (end : x (n + 1) ≡ pos 0)
     (forth : (j : ℕ) → suc j ≤ n → unsigned_abs (pos denominator *ℤ g (suc j) -ℤ pos (pivot n (suc j)) *ℤ (k (suc j) -ℤ g j)) ≤ c * denominator)
