@@ -22,4 +22,3 @@ returns-in_err-number c =
     let wrong : Writes c.in-Some.word.now → ⊥ = search (rules, c.parse.ensures.value.0) in
     let fault : c.from_residual.result ≡ Err (Word (length c.loop-word.numbers.items + 1)) = search rules in
     rw fault (blamed c.loop-word.invariant _ first wrong (ap (λ n. n + 1) (counted c.loop-word.invariant)))
-
