@@ -1,6 +1,5 @@
 -- A number that fits 64 bits is what its bits say.
-use Rattle.std.proofs.Common.{◌≡◌, ◌^◌, ◌<◌, ℤ, nat_abs, w64, to_z, of_z}
-use Rattle.std.proofs.lemmas.Int.{to_z-of_z, fits_signed_from_abs}
+use Rattle.std.proofs.Common.{◌≡◌, ◌^◌, ◌<◌, ℤ, nat_abs, arith, w64, to_z, of_z}
 
 pub same64 : (z : ℤ) → nat_abs z < 2 ^ 63 → to_z w64 (of_z w64 z) ≡ z
-same64 z h = to_z-of_z w64 z (fits_signed_from_abs w64 z h)
+same64 z h = grind arith

@@ -19,10 +19,7 @@ doubled n = record {
 doubled_row : (n : ℕ) (r : ℕ → ℤ) (u : ℤ) (j : ℕ) → OnLine n j → j < n → sum_at n (shot r u u) j ≡ r j
 unfolding shot
 doubled_row n r u zero on h = absurd (omega arith)
-doubled_row n r u (suc zero) on h =
-    let before : clamped n 0 ≡ 1 = omega arith in
-    let after : clamped n 2 ≡ 2 = omega arith in
-    rw (before, after) (shot_row r u u 0)
+doubled_row n r u (suc zero) on h = grind arith
 doubled_row n r u (suc (suc j)) on h =
     let before : clamped n (suc (suc j) - 1) ≡ suc j = omega arith in
     let after : clamped n (suc (suc j) + 1) ≡ suc (suc (suc j)) = omega arith in

@@ -1,12 +1,13 @@
 -- The steps of the loops of elimination, over lists and numbers alone.
-use Rattle.std.proofs.Common.{◌≡◌, ℕ, suc, ◌+◌, ◌-◌, ◌*◌, ◌^◌, ◌<◌, ◌≤◌, ◌≢◌, List, [], ◌∷◌, ◌++◌, map, length, get_or, take, set, ℤ, pos, ◌-ℤ◌, ◌*ℤ◌, nat_abs, sym, refl, ap, ◌∙◌, subst, ap₂, add-one, arith, w64, to_z, of_z}
+use Rattle.std.proofs.Common.{◌≡◌, ℕ, suc, ◌+◌, ◌-◌, ◌*◌, ◌^◌, ◌<◌, ◌≤◌, List, [], ◌∷◌, ◌++◌, map, length, get_or, take, set, ℤ, pos, ◌-ℤ◌, ◌*ℤ◌, nat_abs, sym, refl, ap, ◌∙◌, ap₂, arith, w64, to_z, of_z}
 use native.Mathlib.Decide.{dec_le}
 use lib.Signed.{mag}
 use Rattle.std.specs.List.{range_with_len, IsLastAndRest}
-use Rattle.std.proofs.Math.Seq.{get_or-append_seam}
-use Rattle.std.proofs.lemmas.List.{get_or_append_left, take_more_set, same_lists, get_or-set_same, get_or-set_other, take_all, get_or_default}
+use Rattle.std.proofs.lemmas.List.{take_more_set, same_lists, get_or_default}
 use Rattle.std.proofs.lemmas.List.FromFn.{map-range_with_len_more, length-map-range_with_len, get_or-map-range_with_len}
+use Rattle.std.proofs.lemmas.Grind.{common_steps}
 use Rattle.std.proofs.lemmas.Int.{to_z-of_z}
+use Rattle.std.proofs.lemmas.Bool.Decides.{nat_tests}
 use Rattle.line.specs.Line.{Within}
 use Rattle.line.specs.Solver.{limit}
 use Rattle.line.specs.FixedPoint.{scale, fraction, nearest}
@@ -37,17 +38,15 @@ module _ (k : List ℤ) (small : Within limit k) (j : ℕ) (on : j < length k) (
 
   pub forward_more : (w r : ℤ) → w ≡ pos (pivot (length k) (j + 1)) → r ≡ fraction w (pos (6 * scale) *ℤ to_z w64 (of_z w64 v) -ℤ g) → mag r < 2 ^ 63 → to_z w64 (of_z w64 r) ≡ forward k (j + 1)
   unfolding forward
-  forward_more w r p h fits =
-      let index : suc j - 1 ≡ j = omega arith in
-      to_z-of_z w64 r (record { sfits = fits }) ∙ h ∙ rw (same64 v (omega (arith, sample)), p, before, add-one j, index, here)
+  forward_more w r p h fits = grind (arith, nat_tests)
 
 -- the parts that `split_last` gives
 module _ (k rest : List ℤ) (last : ℤ) (cut : IsLastAndRest k last rest) where
   pub at_rest : (j : ℕ) → j < length rest → get_or rest j (pos 0) ≡ get_or k j (pos 0)
-  at_rest j h = rw cut.0 (sym (get_or_append_left rest (last ∷ []) (pos 0) j h))
+  at_rest j h = grind (arith, common_steps)
 
   pub at_last : (j : ℕ) → j ≡ length rest → last ≡ get_or k j (pos 0)
-  at_last j e = rw (cut.0, e) (sym (get_or-append_seam rest last [] (pos 0)))
+  at_last j e = grind (arith, common_steps)
 
 pub filled_more : (f : ℕ → ℤ) (out : List ℤ) (j : ℕ) (v : ℤ) → j < length out → take j out ≡ map f (range_with_len 1 j) → v ≡ f (j + 1) →
     take (j + 1) (set out j v) ≡ map f (range_with_len 1 (j + 1))
@@ -55,7 +54,7 @@ filled_more f out j v h before e =
     take_more_set out j v h ∙ ap₂ (λ (a : List ℤ) (b : ℤ). a ++ b ∷ []) before e ∙ sym (map-range_with_len_more f 1 j (j + 1) (omega arith))
 
 pub filled_all : (f : ℕ → ℤ) (out : List ℤ) (j n : ℕ) → length out ≡ n → j ≡ n → take j out ≡ map f (range_with_len 1 j) → out ≡ map f (range_with_len 1 n)
-filled_all f out j n long e filled = sym (take_all j out (omega arith)) ∙ filled ∙ ap (λ (m : ℕ). map f (range_with_len 1 m)) e
+filled_all f out j n long e filled = grind (arith, common_steps)
 
 -- Back
 
@@ -66,10 +65,7 @@ back_none g i e = rw e
 back_more : (g : List ℤ) (j : ℕ) (v x r : ℤ) → 0 < j → j ≤ length g → v ≡ get_or g (j - 1) (pos 0) → x ≡ back g (length g - j) →
     r ≡ v -ℤ fraction (pos (pivot (length g) j)) x → r ≡ back g (length g - (j - 1))
 unfolding back
-back_more g j v x r some on e f h =
-    let one_more : length g - (j - 1) ≡ suc (length g - j) = omega arith in
-    let here : length g - (length g - j) ≡ j = omega arith in
-    h ∙ rw (e, f, one_more, here)
+back_more g j v x r some on e f h = grind arith
 
 -- any pivot serves in the last row, where x is 0
 any_last : (g : List ℤ) (j : ℕ) (w x : ℤ) → j ≤ length g → x ≡ back g (length g - j) → (j < length g → w ≡ pos (pivot (length g) j)) →
@@ -84,7 +80,7 @@ any_last g j w x on e inner = elim (dec_le (suc j) (length g)) [ yes q ↦ ap (�
 -- a turn at place j, where out still has g up to j
 module _ (g out : List ℤ) (j : ℕ) (some : 0 < j) (on : j ≤ length g) (before : (k : ℕ) → k < j → get_or out k (pos 0) ≡ get_or g k (pos 0)) (small : Within forward_limit g) where
   pub read_small : nat_abs (get_or out (j - 1) (pos 0)) ≤ forward_limit
-  read_small = rw (before (j - 1) (omega arith)) (at_index g forward_limit small (j - 1) (omega arith))
+  read_small = grind arith
 
   pub back_ready : (x : ℤ) → x ≡ back g (length g - j) → (nat_abs (to_z w64 (of_z w64 (get_or out (j - 1) (pos 0)))) ≤ forward_limit) × (nat_abs x ≤ back_limit)
   back_ready x e = (
@@ -101,20 +97,11 @@ module _ (g out : List ℤ) (j : ℕ) (some : 0 < j) (on : j ≤ length g) (befo
 
 module _ (g out : List ℤ) (j : ℕ) (y : ℤ) (some : 0 < j) (on : j ≤ length g) (long : length out ≡ length g) where
   pub kept_below : ((k : ℕ) → k < j → get_or out k (pos 0) ≡ get_or g k (pos 0)) → (k : ℕ) → k < j - 1 → get_or (set out (j - 1) y) k (pos 0) ≡ get_or g k (pos 0)
-  kept_below before k h = let other : k ≢ j - 1 = omega arith in rw get_or-set_other (before k (omega arith))
+  kept_below before k h = grind (arith, common_steps)
 
   pub done_above : y ≡ nearest scale (back g (length g - (j - 1))) → ((k : ℕ) → j ≤ k → k < length g → get_or out k (pos 0) ≡ nearest scale (fine g (k + 1))) →
       (k : ℕ) → j - 1 ≤ k → k < length g → get_or (set out (j - 1) y) k (pos 0) ≡ nearest scale (fine g (k + 1))
-  done_above e before k low high = elim (dec_le j k) [ yes q ↦ above q | no q ↦ at (omega arith) ]
-    where
-      above : j ≤ k → get_or (set out (j - 1) y) k (pos 0) ≡ nearest scale (fine g (k + 1))
-      above q = let other : k ≢ j - 1 = omega arith in rw get_or-set_other (before k q high)
-
-      at : j - 1 ≡ k → get_or (set out (j - 1) y) k (pos 0) ≡ nearest scale (fine g (k + 1))
-      at q =
-          let inside : j - 1 < length out = omega arith in
-          subst (λ (i : ℕ). get_or (set out (j - 1) y) i (pos 0) ≡ nearest scale (fine g (k + 1))) q
-          (get_or-set_same out (j - 1) y (pos 0) inside ∙ e ∙ ap (λ (i : ℕ). nearest scale (back g i)) (omega arith))
+  done_above e before k low high = grind (arith, common_steps)
 
 pub done_all : (g out : List ℤ) → length out ≡ length g → ((k : ℕ) → k < length g → get_or out k (pos 0) ≡ nearest scale (fine g (k + 1))) → out ≡ backs g
 done_all g out long done =

@@ -32,7 +32,7 @@ sign_abs (negsuc n) = omega (arith, ints)
 
 module _ {n : ℕ} {sums : Sums} (rule : Dominant n sums) where
   pub along : (j : ℕ) → Linear (λ x. sums x j)
-  along j = record { adds = λ x y. rule.adds x y j; scales = λ c x. rule.scales c x j }
+  along j = grind arith
 
   pub dominance : (x : ℕ → ℤ) (g : ℕ) → ((j : ℕ) → OnLine n j → unsigned_abs (sums x j) ≤ g) → (j : ℕ) → OnLine n j → 2 * unsigned_abs (x j) ≤ g
   dominance x g h j on =
@@ -84,7 +84,7 @@ module _ {n : ℕ} {sums : Sums} (rule : Dominant n sums) where
     where
       -- all sums are within the last, so the last one is above 0 as p a is
       small : (j : ℕ) → OnLine n j → unsigned_abs (sums p j) ≤ unsigned_abs (sums p n)
-      small j at = or_last (λ j. unsigned_abs (sums p j) ≤ unsigned_abs (sums p n)) n (omega arith) j at (λ i. omega (arith, ints, rows_p j at i))
+      small j at = grind arith
 
       last_nonzero : 0 < unsigned_abs (sums p n)
       last_nonzero = omega (arith, dominance p (unsigned_abs (sums p n)) small a on)

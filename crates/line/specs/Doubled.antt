@@ -1,7 +1,6 @@
 -- Under doubled ends the sums are linear in the line, and the weights of each come to 6.
 use Rattle.std.specs.Prelude.{ℕ, ◌+◌, ◌-◌, pos}
 use Rattle.std.proofs.Common.{arith}
-use Rattle.std.proofs.lemmas.Int.{ints}
 use Rattle.line.specs.Line.{clamped, sum_at}
 use Rattle.line.specs.Linear.{Linear, Crosses, linear, at_crosses, add_crosses, scale_crosses}
 use Rattle.line.specs.Rounding.{SixFold}
@@ -14,4 +13,4 @@ pub doubled_linear : (n j : ℕ) → Linear (λ x. sum_at n x j)
 doubled_linear n j = linear (doubled_crosses n j)
 
 pub doubled_six : (n : ℕ) → SixFold n (sum_at n)
-doubled_six n x j g on all = omega (arith, ints, all (clamped n (j - 1)) (omega arith), all j on, all (clamped n (j + 1)) (omega arith))
+doubled_six n x j g on all = grind arith

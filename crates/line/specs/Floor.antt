@@ -1,20 +1,15 @@
 -- Quotients rounded down.
-use Rattle.std.specs.Prelude.{ℕ, ◌+◌, ◌*◌, ◌<◌, ◌≤◌, ℤ, pos, negsuc, ◌-ℤ◌, ◌*ℤ◌, ◌≤ℤ◌, unsigned_abs}
+use Rattle.std.specs.Prelude.{ℕ, ◌+◌, ◌*◌, ◌<◌, ◌≤◌, ℤ, pos, negsuc, ◌-ℤ◌, ◌*ℤ◌, unsigned_abs}
 use Rattle.std.proofs.Common.{arith}
 use Rattle.std.specs.Int.Signed.{shr_z}
-use Rattle.std.proofs.lemmas.Int.{ints, unsigned_abs-mul}
-use Rattle.std.proofs.lemmas.Nat.{div-add-mod', mod_below, mul-le}
+use Rattle.std.proofs.lemmas.Int.{ints}
+use Rattle.std.proofs.lemmas.Nat.{mul-le}
 use Rattle.line.specs.Products.{cancel-<}
 
 -- m floor(z / m) is less than m below z
 pub floor_near : (z : ℤ) (m : ℕ) → 0 < m → unsigned_abs (pos m *ℤ shr_z z m -ℤ z) < m
-floor_near (pos a) m above = omega (arith, ints, div-add-mod' a m, mod_below a m above)
-floor_near (negsuc a) m above = omega (arith, ints, div-add-mod' a m, mod_below a m above)
-
--- and never above it
-pub floor_low : (z : ℤ) (m : ℕ) → 0 < m → (pos m *ℤ shr_z z m) ≤ℤ z
-floor_low (pos a) m above = omega (arith, ints, div-add-mod' a m, mod_below a m above)
-floor_low (negsuc a) m above = omega (arith, ints, div-add-mod' a m, mod_below a m above)
+floor_near (pos a) m above = grind arith
+floor_near (negsuc a) m above = grind arith
 
 -- at most a third of b, but for the rounding
 pub third_size : (w b : ℤ) (q : ℕ) → 0 < q → 3 * unsigned_abs w ≤ q → 3 * unsigned_abs (shr_z (w *ℤ b) q) ≤ unsigned_abs b + 2
@@ -27,4 +22,4 @@ third_size w b q above h =
     apart a b m near = omega (arith, ints)
 
     size : (v : ℤ) → unsigned_abs (pos q *ℤ v -ℤ w *ℤ b) < q → q * unsigned_abs v < q + unsigned_abs w * unsigned_abs b
-    size v near = omega (arith, unsigned_abs-mul (pos q) v, unsigned_abs-mul w b, apart (pos q *ℤ v) (w *ℤ b) q near)
+    size v near = grind arith

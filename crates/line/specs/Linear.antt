@@ -1,6 +1,6 @@
 -- Numbers made from a line, linear in the line.
 use Rattle.std.specs.Prelude.{◌≡◌, ℕ, zero, suc, ℤ, ◌+ℤ◌, ◌-ℤ◌, ◌*ℤ◌, refl}
-use Rattle.std.proofs.Common.{arith, sym, ap, ap₂, ◌∙◌}
+use Rattle.std.proofs.Common.{arith, sym, ap}
 use Rattle.std.proofs.Math.IntN.{ -ℤ-+ℤ_cancel}
 use Rattle.std.proofs.Math.Path.{fun_ext}
 use Rattle.std.proofs.lemmas.Int.{ints}
@@ -25,10 +25,10 @@ pub at_crosses : (p : ℕ) → Crosses (λ x. x p)
 at_crosses p = record { over = λ f l m. refl }
 
 pub add_crosses : {g h : Form} → Crosses g → Crosses h → Crosses (λ x. g x +ℤ h x)
-add_crosses {g} {h} p q = record { over = λ f l m. l.adds (λ i. g (m i)) (λ i. h (m i)) ∙ ap₂ ◌+ℤ◌ (p.over f l m) (q.over f l m) }
+add_crosses {g} {h} p q = grind arith
 
 pub scale_crosses : {g : Form} (c : ℤ) → Crosses g → Crosses (λ x. c *ℤ g x)
-scale_crosses {g} c p = record { over = λ f l m. l.scales c (λ i. g (m i)) ∙ ap (◌*ℤ◌ c) (p.over f l m) }
+scale_crosses {g} c p = grind arith
 
 pub linear : {g : Form} → Crosses g → Linear g
 linear {g} h = record {

@@ -1,20 +1,16 @@
 -- The pivots: none is above a third, and each is the quotient of its row but for less than its divisor.
-use Rattle.std.specs.Prelude.{◌≡◌, ℕ, zero, suc, ◌+◌, ◌-◌, ◌*◌, ◌/◌, ◌%◌, ◌<◌, ◌≤◌, Bool, true, false, cond, ◌||◌, ◌==◌, refl}
+use Rattle.std.specs.Prelude.{◌≡◌, ℕ, zero, suc, ◌+◌, ◌-◌, ◌*◌, ◌/◌, ◌%◌, ◌<◌, ◌≤◌, refl}
 use Rattle.std.proofs.Common.{arith, ap₂}
-use Rattle.std.proofs.lemmas.Nat.{div-add-mod', mod_below, mul-le}
+use Rattle.std.proofs.lemmas.Nat.{mod_below}
 use Rattle.line.specs.FixedPoint.{denominator}
 use Rattle.line.specs.Pivot.{diagonal, pivot}
 
 pub four_or_five : (n j : ℕ) → (4 ≤ diagonal n j) × (diagonal n j ≤ 5)
-four_or_five n j = either (j == 1 || j == n)
-  where
-    either : (b : Bool) → (4 ≤ cond b 5 4) × (cond b 5 4 ≤ 5)
-    either true = omega arith
-    either false = omega arith
+four_or_five n j = grind arith
 
 -- for a divisor D of at least 3 denominator
 third : (D : ℕ) → 3 * denominator ≤ D → 3 * (denominator * denominator / D) ≤ denominator
-third D h = omega (arith, div-add-mod' (denominator * denominator) D, mul-le (denominator * denominator / D) (3 * denominator) (denominator * denominator / D) D (omega arith) h)
+third D h = grind arith
 
 pub pivot_small : (n j : ℕ) → 3 * pivot n j ≤ denominator
 unfolding pivot
@@ -31,7 +27,7 @@ divisor_is n j = omega (arith, four_or_five n (suc j), pivot_small n j)
 
 pub divisor_high : (n j : ℕ) → divisor n j ≤ 5 * denominator
 unfolding divisor
-divisor_high n j = omega (arith, four_or_five n (suc j))
+divisor_high n j = grind arith
 
 -- what the division leaves
 pub rest : ℕ → ℕ → ℕ
@@ -39,7 +35,7 @@ rest n j = (denominator * denominator) % divisor n j
 
 pub rest_is : (n j : ℕ) → pivot n (suc j) * divisor n j + rest n j ≡ denominator * denominator
 unfolding pivot rest divisor
-rest_is n j = div-add-mod' (denominator * denominator) (divisor n j)
+rest_is n j = grind arith
 
 pub rest_high : (n j : ℕ) → rest n j ≤ 5 * denominator
 unfolding rest

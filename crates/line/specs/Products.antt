@@ -1,7 +1,6 @@
 -- Laws of the product of whole numbers with a sign.
 use Rattle.std.specs.Prelude.{◌≡◌, ℕ, ◌+◌, ◌*◌, ◌<◌, ◌≤◌, ℤ, pos, ◌+ℤ◌, ◌-ℤ◌, ◌*ℤ◌, unsigned_abs}
 use Rattle.std.proofs.Common.{arith, mul-le-mul_left, sym, ap, ◌∙◌}
-use Rattle.std.proofs.Math.Decide.{dec_le}
 use Rattle.std.proofs.lemmas.Int.{ints, unsigned_abs-mul}
 use Rattle.line.specs.Ring.{ring, parts, same_dif, *-sub}
 
@@ -39,7 +38,4 @@ times_within m a b g h = rw (abs_scaled m a b) (mul-le-mul_left m h)
 -- A positive factor is cancelled.
 
 pub cancel-< : (c a b : ℕ) → c * a < c * b → a < b
-cancel-< c a b h = elim (dec_le b a) [ yes q ↦ absurd (not_below q) | no q ↦ omega arith ]
-  where
-    not_below : b ≤ a → ⊥
-    not_below q = omega (arith, mul-le-mul_left c q)
+cancel-< c a b h = grind arith

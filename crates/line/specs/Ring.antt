@@ -5,7 +5,7 @@
 use Rattle.std.specs.Prelude.{◌≡◌, ℕ, ◌+◌, ◌*◌, ℤ, pos, ◌+ℤ◌, ◌-ℤ◌, ◌*ℤ◌, neg_ℤ}
 use Rattle.std.proofs.Common.{arith, ap, ap₂, ◌∙◌}
 use Rattle.std.proofs.Math.IntN.{*ℤ_comm}
-use borrow.Author.Differences.{up, down, sum_is_lem, neg_is}
+use borrow.Author.Differences.{up, down, sum_is_lem}
 use Rattle.std.proofs.lemmas.Int.{ints}
 
 times : (c : ℕ) {a b : ℕ} → a ≡ b → c * a ≡ c * b
@@ -15,7 +15,7 @@ pub *-add : (a b c : ℤ) → a *ℤ (b +ℤ c) ≡ a *ℤ b +ℤ a *ℤ c
 *-add a b c = omega (arith, ints, times (up a) (sum_is_lem b c), times (down a) (sum_is_lem b c))
 
 *-neg : (a b : ℤ) → a *ℤ neg_ℤ b ≡ neg_ℤ (a *ℤ b)
-*-neg a b = omega (arith, ints, times (up a) (neg_is b).0, times (up a) (neg_is b).1, times (down a) (neg_is b).0, times (down a) (neg_is b).1)
+*-neg a b = grind arith
 
 pub *-sub : (a b c : ℤ) → a *ℤ (b -ℤ c) ≡ a *ℤ b -ℤ a *ℤ c
 *-sub a b c = *-add a b (neg_ℤ c) ∙ ap (◌+ℤ◌ (a *ℤ b)) (*-neg a c)

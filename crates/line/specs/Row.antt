@@ -53,10 +53,7 @@ module _ (c d w w₀ D δ : ℕ) (k g g₀ x x₀ x₂ : ℤ) (some : 1 ≤ c)
 
   row_sum : ((x₀ +ℤ pos d *ℤ x) +ℤ x₂) -ℤ k ≡ ((x₀ -ℤ g₀) +ℤ pos d *ℤ x) -ℤ y
   unfolding y
-  row_sum = plain x₀ (pos d *ℤ x) x₂ k g₀
-    where
-      plain : (a b c d e : ℤ) → ((a +ℤ b) +ℤ c) -ℤ d ≡ ((a -ℤ e) +ℤ b) -ℤ ((d -ℤ e) -ℤ c)
-      plain a b c d e = omega (arith, ints)
+  row_sum = omega (arith, ints)
 
   pub row : unsigned_abs (((x₀ +ℤ pos d *ℤ x) +ℤ x₂) -ℤ k) ≤ 12 * c
   row =

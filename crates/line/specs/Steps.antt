@@ -1,50 +1,22 @@
 -- Numbers g and x of the two sweeps, each step of them met within c: then x has the sums k within 12 c.
-use Rattle.std.specs.Prelude.{◌≡◌, ℕ, zero, suc, ◌+◌, ◌-◌, ◌*◌, ◌<◌, ◌≤◌, ℤ, pos, ◌+ℤ◌, ◌-ℤ◌, ◌*ℤ◌, unsigned_abs}
-use Rattle.std.proofs.Common.{arith, add-one, subst}
-use Rattle.std.proofs.Math.Decide.{dec_le}
-use Rattle.std.proofs.Math.IntN.{zero-*ℤ}
+use Rattle.std.specs.Prelude.{◌≡◌, ℕ, zero, suc, ◌+◌, ◌*◌, ◌≤◌, ℤ, pos, ◌+ℤ◌, ◌-ℤ◌, ◌*ℤ◌, unsigned_abs}
+use Rattle.std.proofs.Common.{arith, add-one}
 use Rattle.std.proofs.lemmas.Int.{ints}
-use Rattle.line.specs.Line.{OnLine, clamped, sum_at}
+use Rattle.std.proofs.lemmas.Bool.Decides.{nat_tests}
+use Rattle.line.specs.Line.{OnLine, sum_at}
 use Rattle.line.specs.FixedPoint.{denominator}
 use Rattle.line.specs.Pivot.{diagonal, pivot}
 use Rattle.line.specs.Pivots.{divisor, divisor_is, divisor_high, rest, rest_is, rest_high}
 use Rattle.line.specs.Row.{row}
 
-diagonal_last : (n : ℕ) → diagonal n n ≡ 5
-diagonal_last n = grind arith
-
-diagonal_inner : (n j : ℕ) → 1 < j → j < n → diagonal n j ≡ 4
-diagonal_inner n j p q = grind arith
-
 -- the doubled points count on the diagonal, and 0 stands beyond the ends
 
 first_sum : (n : ℕ) (x : ℕ → ℤ) → 2 ≤ n → sum_at n x 1 ≡ (pos 0 +ℤ pos (diagonal n 1) *ℤ x 1) +ℤ x 2
-first_sum n x two =
-    let before : clamped n 0 ≡ 1 = omega arith in
-    let after : clamped n 2 ≡ 2 = omega arith in
-    rw (before, after) (omega (arith, ints))
+first_sum n x two = grind arith
 
 later_sum : (n : ℕ) (x : ℕ → ℤ) → x (n + 1) ≡ pos 0 → (i : ℕ) → OnLine n (suc (suc i)) →
     sum_at n x (suc (suc i)) ≡ (x (suc i) +ℤ pos (diagonal n (suc (suc i))) *ℤ x (suc (suc i))) +ℤ x (suc (suc i) + 1)
-later_sum n x end i on = elim (dec_le (suc (suc (suc i))) n) [ yes q ↦ inner q | no q ↦ last (omega arith) ]
-  where
-    before : clamped n (suc (suc i) - 1) ≡ suc i
-    before = omega arith
-
-    inner : suc (suc i) < n → sum_at n x (suc (suc i)) ≡ (x (suc i) +ℤ pos (diagonal n (suc (suc i))) *ℤ x (suc (suc i))) +ℤ x (suc (suc i) + 1)
-    inner q =
-        let after : clamped n (suc (suc i) + 1) ≡ suc (suc i) + 1 = omega arith in
-        rw (before, after, diagonal_inner n (suc (suc i)) (omega arith) q)
-
-    last : n ≡ suc (suc i) → sum_at n x (suc (suc i)) ≡ (x (suc i) +ℤ pos (diagonal n (suc (suc i))) *ℤ x (suc (suc i))) +ℤ x (suc (suc i) + 1)
-    last e =
-        let after : clamped n (suc (suc i) + 1) ≡ suc (suc i) = omega arith in
-        let five : diagonal n (suc (suc i)) ≡ 5 = subst (λ (j : ℕ). diagonal n j ≡ 5) e (diagonal_last n) in
-        let none : x (suc (suc i) + 1) ≡ pos 0 = subst (λ (j : ℕ). x (j + 1) ≡ pos 0) e end in
-        rw (before, after, five, none) (omega (arith, ints))
-
-nothing : (q : ℕ) (x : ℤ) (b : ℕ) → unsigned_abs ((pos q *ℤ pos 0 -ℤ pos q *ℤ pos 0) +ℤ pos 0 *ℤ x) ≤ b
-nothing q x b = rw (zero-*ℤ x) (omega (arith, ints))
+later_sum n x end i on = grind (arith, nat_tests)
 
 module _ (n c : ℕ) (k g x : ℕ → ℤ) (two : 2 ≤ n) (some : 1 ≤ c) (start : g 0 ≡ pos 0) (end : x (n + 1) ≡ pos 0)
     (forth : (j : ℕ) → suc j ≤ n → unsigned_abs (pos denominator *ℤ g (suc j) -ℤ pos (pivot n (suc j)) *ℤ (k (suc j) -ℤ g j)) ≤ c * denominator)
@@ -59,7 +31,7 @@ module _ (n c : ℕ) (k g x : ℕ → ℤ) (two : 2 ≤ n) (some : 1 ≤ c) (sta
 
   before_first : unsigned_abs ((pos denominator *ℤ pos 0 -ℤ pos denominator *ℤ g 0) +ℤ pos (pivot n 0) *ℤ x 1) ≤ c * denominator
   unfolding pivot
-  before_first = rw start (nothing denominator (x 1) (c * denominator))
+  before_first = omega (arith, ints)
 
   pub rows_near : (j : ℕ) → OnLine n j → unsigned_abs (sum_at n x j -ℤ k j) ≤ 12 * c
   rows_near zero on = absurd (omega arith)

@@ -55,11 +55,7 @@ back_small g some small (suc i) on =
 -- x j = g j - w j x (j + 1)
 pub fine_step : (g : List ℤ) (j : ℕ) → OnLine (length g) j → fine g j ≡ place g j -ℤ fraction (pos (pivot (length g) j)) (fine g (j + 1))
 unfolding back
-fine_step g j on =
-    let here : length g + 1 - j ≡ suc (length g - j) = omega arith in
-    let next : length g + 1 - (j + 1) ≡ length g - j = omega arith in
-    let again : length g - (length g - j) ≡ j = omega arith in
-    rw (here, next, again)
+fine_step g j on = grind arith
 
 back_near : (g : List ℤ) (j : ℕ) → OnLine (length g) j → unsigned_abs ((pos denominator *ℤ fine g j -ℤ pos denominator *ℤ place g j) +ℤ pos (pivot (length g) j) *ℤ fine g (j + 1)) ≤ 1 * denominator
 back_near g j on =
@@ -72,7 +68,7 @@ back_near g j on =
 
 fine_end : (g : List ℤ) → fine g (length g + 1) ≡ pos 0
 unfolding back
-fine_end g = let none : length g + 1 - (length g + 1) ≡ 0 = omega arith in rw none
+fine_end g = grind arith
 
 -- Both
 
