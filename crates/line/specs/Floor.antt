@@ -1,5 +1,5 @@
 -- Quotients rounded down.
-use Rattle.std.specs.Prelude.{ℕ, ◌+◌, ◌*◌, ◌<◌, ◌≤◌, ℤ, pos, negsuc, ◌-ℤ◌, ◌*ℤ◌, unsigned_abs}
+use Rattle.std.specs.Prelude.{ℕ, ◌+◌, ◌*◌, ◌<◌, ◌≤◌, ℤ, pos, negsuc, ◌-ℤ◌, ◌*ℤ◌, ◌≤ℤ◌, unsigned_abs}
 use Rattle.std.proofs.Common.{arith}
 use Rattle.std.specs.Int.Signed.{shr_z}
 use Rattle.std.proofs.lemmas.Int.{ints}
@@ -10,6 +10,11 @@ use Rattle.line.specs.Products.{cancel-<}
 pub floor_near : (z : ℤ) (m : ℕ) → 0 < m → unsigned_abs (pos m *ℤ shr_z z m -ℤ z) < m
 floor_near (pos a) m above = grind arith
 floor_near (negsuc a) m above = grind arith
+
+-- and never above it
+pub floor_low : (z : ℤ) (m : ℕ) → 0 < m → (pos m *ℤ shr_z z m) ≤ℤ z
+floor_low (pos a) m above = grind arith
+floor_low (negsuc a) m above = grind arith
 
 -- at most a third of b, but for the rounding
 pub third_size : (w b : ℤ) (q : ℕ) → 0 < q → 3 * unsigned_abs w ≤ q → 3 * unsigned_abs (shr_z (w *ℤ b) q) ≤ unsigned_abs b + 2

@@ -1,6 +1,6 @@
 -- Numbers made from a line, linear in the line.
-use Rattle.std.specs.Prelude.{◌≡◌, ℕ, zero, suc, ℤ, ◌+ℤ◌, ◌-ℤ◌, ◌*ℤ◌, refl}
-use Rattle.std.proofs.Common.{arith, sym, ap}
+use Rattle.std.specs.Prelude.{◌≡◌, ℕ, zero, suc, Bool, true, false, if◌then◌else◌, ℤ, ◌+ℤ◌, ◌-ℤ◌, ◌*ℤ◌, refl}
+use Rattle.std.proofs.Common.{arith, sym, ap, ap₂, ◌∙◌}
 use Rattle.std.proofs.Math.IntN.{ -ℤ-+ℤ_cancel}
 use Rattle.std.proofs.Math.Path.{fun_ext}
 use Rattle.std.proofs.lemmas.Int.{ints}
@@ -27,8 +27,15 @@ at_crosses p = record { over = λ f l m. refl }
 pub add_crosses : {g h : Form} → Crosses g → Crosses h → Crosses (λ x. g x +ℤ h x)
 add_crosses {g} {h} p q = grind arith
 
+pub sub_crosses : {g h : Form} → Crosses g → Crosses h → Crosses (λ x. g x -ℤ h x)
+sub_crosses {g} {h} p q = record { over = λ f l m. subtracts l (λ i. g (m i)) (λ i. h (m i)) ∙ ap₂ ◌-ℤ◌ (p.over f l m) (q.over f l m) }
+
 pub scale_crosses : {g : Form} (c : ℤ) → Crosses g → Crosses (λ x. c *ℤ g x)
 scale_crosses {g} c p = grind arith
+
+pub cond_crosses : {g h : Form} (b : Bool) → Crosses g → Crosses h → Crosses (λ x. if b then g x else h x)
+cond_crosses true p q = p
+cond_crosses false p q = q
 
 pub linear : {g : Form} → Crosses g → Linear g
 linear {g} h = record {

@@ -29,6 +29,9 @@ together a b m c e = sym (pos-* a b c) ∙ ap (λ (n : ℕ). pos n *ℤ c) e
 pub abs_add : (a b : ℤ) → unsigned_abs (a +ℤ b) ≤ unsigned_abs a + unsigned_abs b
 abs_add a b = omega (arith, ints)
 
+pub abs_sub : (a b : ℤ) → unsigned_abs (a -ℤ b) ≤ unsigned_abs a + unsigned_abs b
+abs_sub a b = omega (arith, ints)
+
 pub abs_scaled : (m : ℕ) (a b : ℤ) → unsigned_abs (pos m *ℤ a -ℤ pos m *ℤ b) ≡ m * unsigned_abs (a -ℤ b)
 abs_scaled m a b = rw (← *-sub (pos m) a b) (unsigned_abs-mul (pos m) (a -ℤ b))
 
@@ -39,3 +42,11 @@ times_within m a b g h = rw (abs_scaled m a b) (mul-le-mul_left m h)
 
 pub cancel-< : (c a b : ℕ) → c * a < c * b → a < b
 cancel-< c a b h = grind arith
+
+pub cancel-≤ : (c a b : ℕ) → 0 < c → c * a ≤ c * b → a ≤ b
+cancel-≤ c a b p h = omega (arith, cancel-< c a (b + 1) (omega arith))
+
+pub cancel : (c : ℕ) (a b : ℤ) → 0 < c → pos c *ℤ a ≡ pos c *ℤ b → a ≡ b
+cancel c a b p e =
+    let apart : unsigned_abs (a -ℤ b) < 1 = cancel-< c (unsigned_abs (a -ℤ b)) 1 (omega (arith, ints, abs_scaled c a b)) in
+    omega (arith, ints)
