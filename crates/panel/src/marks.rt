@@ -1,4 +1,5 @@
-// The marks of lines: which are current, which go stale, and the grade of each.
+// The marks of lines: which are current, which go stale, and the grade of each. Functions of a slice and not methods of a struct around it: the
+// definitions speak of lists of marks, and a struct would only stand between.
 ghost use Rattle.std.specs.Prelude.{◌≡◌, replicate};
 ghost use Rattle.std.specs.List.{list_all};
 ghost use Rattle.panel.specs.declared.record.Mark.TheVariants.{Unrun};

@@ -1,4 +1,4 @@
-// Probing a place again.
+// Probing a place again. Row and column stay the two numbers that a carver typed until they are checked; then they are a place.
 ghost use Rattle.std.specs.Prelude.{◌≡◌, ◌<◌, ◌≤◌, ◌&&◌, map, slice_set, unsigned_abs};
 ghost use Rattle.grid.specs.Checks.{if_ok};
 ghost use Rattle.grid.specs.Grid.{Grid};

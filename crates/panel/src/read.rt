@@ -1,4 +1,5 @@
-// Reading the fitted surface at a place, with the tolerance of the reading.
+// Reading the fitted surface at a place, with the tolerance of the reading. The place stays the two numbers that came in until they are checked;
+// then a view holds them.
 ghost use Rattle.std.specs.Prelude.{◌≡◌, ℕ, ◌-◌, ◌*◌, map, pos, unsigned_abs};
 ghost use Rattle.std.specs.List.{range_with_len};
 ghost use Rattle.std.specs.Result.{result_and};
