@@ -31,8 +31,8 @@ impl Panel {
         ensures { result ≡ fit_answer self.now (map K.Sample.parts samples.now) (map K.Sample.parts halves.now) (map K.Sample.parts controls.now) }
     {
         may_make(
-            self.size.rows as i32,
-            self.size.columns as i32,
+            i32::from(self.size.rows),
+            i32::from(self.size.columns),
             samples,
             halves,
             controls,

@@ -21,7 +21,7 @@ use surface::patch::lines_around;
 fn last_before(count: u8) -> usize
     ensures { result ≡ 32 * count - 1 }
 {
-    (32 * count as usize).saturating_sub(1)
+    (32 * usize::from(count)).saturating_sub(1)
 }
 
 impl Panel {

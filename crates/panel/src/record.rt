@@ -89,7 +89,7 @@ impl Panel {
     }
 }
 
-// Where a place stands in a grid of that length.
+// Where a place stands in a grid of that length. (`GridSize::index_of` is for any place and may answer none; past a call's checks there is one.)
 pub(crate) fn index_of(length: usize, size: GridSize, place: Place) -> usize
     requires { index size.columns place.row place.column < length }
     ensures value { result ≡ index size.columns place.row place.column }
