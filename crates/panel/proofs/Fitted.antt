@@ -34,6 +34,13 @@ narrow_append rows more narrow narrow_more q e = go (cases_lt q (length rows))
 pub narrow_drop : (k : ℕ) (rows : List (List ℤ)) → Narrow rows → Narrow (drop k rows)
 narrow_drop k rows narrow q e = rw (get_or-drop k rows q []) (narrow (k + q) e)
 
+pub narrow_set : (rows : List (List ℤ)) (q : ℕ) (row : List ℤ) → q < length rows → ((e : ℕ) → nat_abs (get_or row e (pos 0)) ≤ 15000006) → Narrow rows → Narrow (set rows q row)
+narrow_set rows q row low narrow_row narrow q' e = go (cases_eq q' q)
+  where
+    go : (q' ≡ q) ⊎ (q' ≡ q → ⊥) → nat_abs (get_or (get_or (set rows q row) q' []) e (pos 0)) ≤ 15000006
+    go (inl same) = rw (same, get_or-set_same rows q row [] low) (narrow_row e)
+    go (inr other) = rw (get_or-set_other rows q q' row [] other) (narrow q' e)
+
 pub narrow_zeros : Narrow (replicate 4 (replicate 64 (pos 0)))
 narrow_zeros zero e = zeros 64 e
 narrow_zeros (suc zero) e = zeros 64 e
@@ -59,17 +66,13 @@ module _ (q n : ℕ) (lines : ℕ → List ℤ) (s : Solver) (sound : Sound s) (
       go (inr other) = ap (λ v. get_or v e (pos 0)) (get_or-set_other solved q q' (s.rule (lines (q + 1)) ++ past) [] other) ∙ before q' e (omega arith) l
 
   pub stays_narrow : solve_answer (lines (q + 1)) n ≡ Ok tt → ((e : ℕ) → nat_abs (get_or past e (pos 0)) ≤ 15000006) → Narrow solved → Narrow next
-  stays_narrow answer end before q' e = go (cases_eq q' q)
+  stays_narrow answer end before = narrow_set solved q (s.rule (lines (q + 1)) ++ past) low (λ e. in_line e (cases_lt e n)) before
     where
       taken_in : solve_answer (lines (q + 1)) (length (lines (q + 1))) ≡ Ok tt
       taken_in = ap (solve_answer (lines (q + 1))) (all (q + 1)) ∙ answer
 
-      in_line : (e < n) ⊎ (n ≤ e) → nat_abs (get_or (s.rule (lines (q + 1)) ++ past) e (pos 0)) ≤ 15000006
-      in_line (inl l) =
+      in_line : (e : ℕ) → (e < n) ⊎ (n ≤ e) → nat_abs (get_or (s.rule (lines (q + 1)) ++ past) e (pos 0)) ≤ 15000006
+      in_line e (inl l) =
           rw (get_or_append_left (s.rule (lines (q + 1))) past (pos 0) e (omega (arith, rule_long)))
           (rule_narrow s sound (lines (q + 1)) taken_in e (omega (arith, all (q + 1))))
-      in_line (inr l) = rw (get_or-append_right (s.rule (lines (q + 1))) past n e (pos 0) rule_long l) (end (e - n))
-
-      go : (q' ≡ q) ⊎ (q' ≡ q → ⊥) → nat_abs (get_or (get_or next q' []) e (pos 0)) ≤ 15000006
-      go (inl same) = rw (same, get_or-set_same solved q (s.rule (lines (q + 1)) ++ past) [] low) (in_line (cases_lt e n))
-      go (inr other) = rw (get_or-set_other solved q q' (s.rule (lines (q + 1)) ++ past) [] other) (before q' e)
+      in_line e (inr l) = rw (get_or-append_right (s.rule (lines (q + 1))) past n e (pos 0) rule_long l) (end (e - n))

@@ -1,5 +1,5 @@
 // Lines of a grid solved part by part, and stored along the same lane of another grid.
-ghost use Rattle.std.specs.Prelude.{◌≡◌, ◌<◌, ◌≤◌, true, ◌++◌, map, length, drop, is_err, IfOk};
+ghost use Rattle.std.specs.Prelude.{◌≡◌, ◌<◌, ◌≤◌, true, ◌++◌, map, length, drop, is_err, OnOk};
 ghost use Rattle.grid.specs.Checks.{if_ok};
 ghost use Rattle.line.specs.Solve.{solve_answer};
 ghost use Rattle.panel.specs.Calls.{solver_took, solver_takes};
@@ -8,7 +8,7 @@ ghost use Rattle.panel_fault.specs.Refusal.{as_answer};
 
 use crate::lane::Lane;
 use grid::sample::Sample;
-use line::solver::{LineSolver, SolveFault};
+use line::solver::{LONGEST, LineSolver, SolveFault};
 use panel_fault::SolverRefusal;
 
 // A line of samples to be solved: the lane of a grid, and the factor of its parts.
@@ -23,9 +23,9 @@ pub(crate) struct Source<'a, K> {
 
 // The line of each part as a solver answered it, and 0 past its end.
 #[derive(Drop)]
-pub(crate) struct Solved {
-    parts: [[i64; 64]; 4],
-    ghost narrow: { Narrow parts },
+pub(crate) struct Solved<'a> {
+    parts: &'a [[i64; LONGEST]; 4],
+    ghost narrow: { Narrow parts.now },
 }
 
 impl<K: Sample> Source<'_, K> {
@@ -46,7 +46,7 @@ impl<K: Sample> Source<'_, K> {
         number: usize,
         part: usize,
         solver: &S,
-        out: &mut [i64; 64],
+        out: &mut [i64; LONGEST],
     ) -> Result<(), SolverRefusal>
         requires { self.now.lane.count ≤ 64 }
         ensures answer { as_answer result ≡ solver_took number part (solve_answer (laned self.now.scale (map K.Sample.parts self.now.grid.now) self.now.lane part) self.now.lane.count) }
@@ -54,7 +54,7 @@ impl<K: Sample> Source<'_, K> {
     {
         let n = self.lane.count;
         // As long as a line may be, since there is no heap.
-        let mut scratch = [0; 64];
+        let mut scratch = [0; LONGEST];
         let line = &mut scratch[..n];
         self.gather(part, line);
         solver
@@ -67,34 +67,40 @@ impl<K: Sample> Source<'_, K> {
     }
 
     // The solver on all parts, in order.
-    fn solve<S: LineSolver>(&self, number: usize, solver: &S) -> Result<Solved, SolverRefusal>
+    fn solve<S: LineSolver>(
+        &self,
+        number: usize,
+        solver: &S,
+        parts: &mut [[i64; LONGEST]; 4],
+    ) -> Result<(), SolverRefusal>
+        requires { Narrow parts.old }
         ensures answer { as_answer result ≡ solver_takes number 1 K.Sample.PARTS (laned self.now.scale (map K.Sample.parts self.now.grid.now) self.now.lane) }
-        ensures filled { IfOk result (λ s. (self.now.lane.count ≤ 64) × Filled K.Sample.PARTS self.now.lane.count S.LineSolver.meaning.rule (laned self.now.scale (map K.Sample.parts self.now.grid.now) self.now.lane) s.parts) }
+        ensures filled { OnOk result ((self.now.lane.count ≤ 64) × Filled K.Sample.PARTS self.now.lane.count S.LineSolver.meaning.rule (laned self.now.scale (map K.Sample.parts self.now.grid.now) self.now.lane) parts.new) }
+        ensures narrow { Narrow parts.new }
     {
-        let n = self.lane.count;
-        if n > 64 {
+        if self.lane.count > LONGEST {
             return Err(SolverRefusal {
                 line: number,
                 part: 1,
                 fault: SolveFault::Length,
             });
         }
-        let mut parts = [[0; 64]; 4];
         for (q, line) in parts[..K::PARTS].iter_mut().enumerate() {
             self.solve_part(number, q + 1, solver, line)?;
         }
-        Ok(Solved { parts })
+        Ok(())
     }
 }
 
-impl Solved {
+impl Solved<'_> {
     // A sample with the parts at entry e.
     fn at<K: Sample>(&self, e: usize, other: K) -> K
         requires { e < 64 }
-        ensures { K.Sample.parts result ≡ column K.Sample.PARTS self.now.parts e }
+        ensures { K.Sample.parts result ≡ column K.Sample.PARTS self.now.parts.now e }
     {
+        let parts = self.parts;
         let mut sample = other;
-        for (q, line) in self.parts[..K::PARTS].iter().enumerate() {
+        for (q, line) in parts[..K::PARTS].iter().enumerate() {
             sample = sample.replace_part(q + 1, line[e] as i32);
         }
         sample
@@ -103,7 +109,7 @@ impl Solved {
     // Stores the samples along a lane.
     fn store<K: Sample>(&self, target: &mut [K], lane: Lane)
         requires { (Inside lane (length target.old)) × (lane.count ≤ 64) }
-        ensures { map K.Sample.parts target.new ≡ stored lane (column K.Sample.PARTS self.now.parts) lane.count (map K.Sample.parts target.old) }
+        ensures { map K.Sample.parts target.new ≡ stored lane (column K.Sample.PARTS self.now.parts.now) lane.count (map K.Sample.parts target.old) }
     {
         // By entry: a lane is no slice.
         for e in 0..lane.count {
@@ -125,7 +131,9 @@ pub(crate) fn fit_line<K: Sample, S: LineSolver>(
     ensures after { map K.Sample.parts target.new ≡ if_ok result (stored source.now.lane (rule_column K.Sample.PARTS S.LineSolver.meaning.rule (laned source.now.scale (map K.Sample.parts source.now.grid.now) source.now.lane)) source.now.lane.count (map K.Sample.parts target.old)) (map K.Sample.parts target.old) }
     ensures same { is_err result ≡ true → target.new ≡ target.old }
 {
-    let solved = source.solve(number, solver)?;
+    let mut parts = [[0; LONGEST]; 4];
+    source.solve(number, solver, &mut parts)?;
+    let solved = Solved { parts: &parts };
     solved.store(target, source.lane);
     Ok(())
 }

@@ -3,4 +3,4 @@ use Rattle.panel.specs.Lane.{column, stored}
 use Rattle.panel.proofs.source.Solved.store.Given as goal
 
 abbrev pub invariant-loop-e : goal.invariant-loop-e
-invariant-loop-e g l = map g.K.Sample.parts l.target ≡ stored l.lane (column g.K.Sample.PARTS l.self.parts) l.e (map g.K.Sample.parts l.initial.target)
+invariant-loop-e g l = map g.K.Sample.parts l.target ≡ stored l.lane (column g.K.Sample.PARTS l.self.parts.now) l.e (map g.K.Sample.parts l.initial.target)

@@ -1,4 +1,4 @@
-use Rattle.std.proofs.Common.{◌≡◌, ℕ, ◌+◌, ◌-◌, ◌<◌, [], ◌++◌, map, length, get_or, drop, replicate, pos, sym, refl, ap, ◌∙◌, arith, Ok}
+use Rattle.std.proofs.Common.{◌≡◌, ℕ, ◌+◌, ◌-◌, ◌<◌, [], ◌++◌, map, length, get_or, drop, pos, sym, refl, ap, ◌∙◌, arith, Ok}
 use Rattle.std.proofs.lemmas.List.{get_or-drop, get_or_append_left, length-take}
 use Rattle.std.proofs.lemmas.List.FromFn.{length-map-range_with_len}
 use Rattle.grid.proofs.Chains.{exit}
@@ -8,11 +8,11 @@ use Rattle.panel.specs.Calls.{solver_took, solver_takes}
 use Rattle.panel.specs.Lane.{laned}
 use Rattle.panel.proofs.Passed.{took}
 use Rattle.panel.proofs.Lanes.{takes_on, takes_out}
-use Rattle.panel.proofs.Fitted.{long_line, fills, stays_narrow, narrow_take, narrow_append, narrow_drop, narrow_zeros}
+use Rattle.panel.proofs.Fitted.{long_line, fills, stays_narrow, narrow_take, narrow_append, narrow_drop, narrow_set}
 use Rattle.panel.proofs.source.Source.solve.Goals as goal
 
-pub returns-then-n-gt64-clause-answer : goal.returns-then-n-gt64-clause-answer
-returns-then-n-gt64-clause-answer g c =
+pub returns-then-self-gt-LONGEST-clause-answer : goal.returns-then-self-gt-LONGEST-clause-answer
+returns-then-self-gt-LONGEST-clause-answer g c =
     let lines = laned c.args.self.now.scale (map g.K.Sample.parts c.args.self.now.grid.now) c.args.self.now.lane in
     let n : length (lines 1) ≡ c.args.self.now.lane.count = length-map-range_with_len _ 0 c.args.self.now.lane.count in
     let e = long_line (lines 1) (omega arith) in
@@ -23,7 +23,7 @@ loop-q-init g c =
     let m : g.K.Sample.PARTS - 0 ≡ g.K.Sample.PARTS = omega arith in record {
       answer = ap (λ n. solver_takes c.args.number 1 n (laned c.args.self.now.scale (map g.K.Sample.parts c.args.self.now.grid.now) c.args.self.now.lane)) m;
       filled = λ q e h l. absurd (omega arith);
-      narrow = narrow_take c.PARTS.result _ narrow_zeros;
+      narrow = narrow_take c.PARTS.result _ c.requires;
     }
 
 pub loop-q-preserved : goal.loop-q-preserved
@@ -33,7 +33,7 @@ loop-q-preserved g c =
     let n = c.args.self.now.lane.count in
     let rows = c.loop-q.line-items in
     let low : q < length rows = omega arith in
-    let few : q < g.K.Sample.PARTS = omega (arith, c.loop-q.auto.line-items, length-take c.PARTS.result (replicate 4 (replicate 64 (pos 0))), c.PARTS.ensures) in
+    let few : q < g.K.Sample.PARTS = omega (arith, c.loop-q.auto.line-items, length-take c.PARTS.result c.args.parts.now, c.PARTS.ensures) in
     let all : (k : ℕ) → length (lines k) ≡ n = λ k. length-map-range_with_len _ 0 n in
     let past = drop n (get_or rows q []) in
     let next : c.solve_part.new.out ≡ g.S.LineSolver.meaning.rule (lines (q + 1)) ++ past = rw (c.in_ok-solve_part.was) at c.solve_part.ensures.after in
@@ -53,20 +53,27 @@ returns-in_err-solve_part-clause-answer g c =
     let lines = laned c.args.self.now.scale (map g.K.Sample.parts c.args.self.now.grid.now) c.args.self.now.lane in
     let q = c.loop-q.q in
     let n = c.args.self.now.lane.count in
-    let few : q < g.K.Sample.PARTS = omega (arith, c.loop-q.auto.line-items, length-take c.PARTS.result (replicate 4 (replicate 64 (pos 0))), c.PARTS.ensures) in
+    let few : q < g.K.Sample.PARTS = omega (arith, c.loop-q.auto.line-items, length-take c.PARTS.result c.args.parts.now, c.PARTS.ensures) in
     let all : length (lines (q + 1)) ≡ n = length-map-range_with_len _ 0 n in
     let refused = rw (c.in_err-solve_part.was) at c.solve_part.ensures.answer in
     ap as_answer (exit _ c.from_residual.ensures.1)
     ∙ sym (takes_out c.args.number (q + 1) lines (g.K.Sample.PARTS - q) (omega arith) (refused ∙ ap (λ m. solver_took c.args.number (q + 1) (solve_answer (lines (q + 1)) m)) (sym all)))
     ∙ c.loop-q.invariant.answer
 
-pub invariant_of-result : goal.invariant_of-result
-invariant_of-result g c = record { narrow = narrow_append c.loop-q.line-items _ c.loop-q.invariant.narrow (narrow_drop c.PARTS.result _ narrow_zeros) }
-
 pub returns-clause-filled : goal.returns-clause-filled
 returns-clause-filled g c =
-    let rows : length c.loop-q.line-items ≡ g.K.Sample.PARTS = omega (arith, c.loop-q.auto.line-items, length-take c.PARTS.result (replicate 4 (replicate 64 (pos 0))), c.PARTS.ensures, g.met.K.Sample.counted.1) in (
+    let rows : length c.loop-q.line-items ≡ g.K.Sample.PARTS = omega (arith, c.loop-q.auto.line-items, length-take c.PARTS.result c.args.parts.now, c.PARTS.ensures, g.met.K.Sample.counted.1) in (
       omega arith,
       λ q e h l.
           ap (λ v. get_or v e (pos 0)) (get_or_append_left c.loop-q.line-items _ [] q (omega arith)) ∙ c.loop-q.invariant.filled q e (omega arith) l,
     )
+
+pub returns-clause-narrow : goal.returns-clause-narrow
+returns-clause-narrow g c = narrow_append c.loop-q.line-items _ c.loop-q.invariant.narrow (narrow_drop c.PARTS.result _ c.requires)
+
+pub returns-in_err-solve_part-clause-narrow : goal.returns-in_err-solve_part-clause-narrow
+returns-in_err-solve_part-clause-narrow g c =
+    let rows = c.loop-q.line-items in
+    let same : c.solve_part.new.out ≡ get_or rows c.loop-q.q [] = rw (c.in_err-solve_part.was) at c.solve_part.ensures.after in
+    narrow_append _ _ (narrow_set rows c.loop-q.q c.solve_part.new.out (omega arith) (λ e. rw same (c.loop-q.invariant.narrow c.loop-q.q e)) c.loop-q.invariant.narrow)
+    (narrow_drop c.PARTS.result _ c.requires)
