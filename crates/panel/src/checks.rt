@@ -15,7 +15,8 @@ pub(crate) fn check(holds: bool, fault: PanelFault) -> Result<(), PanelFault>
     if holds { Ok(()) } else { Err(fault) }
 }
 
-// Whether a number lies between two limits, both included.
+// Whether a number lies between two limits, both included. What passed is then cast by `as`: a second `try_from` would add a branch that never
+// fails.
 pub(crate) fn is_between(v: i32, low: usize, high: usize) -> bool
     ensures { result ≡ between v low high }
 {

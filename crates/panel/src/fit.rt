@@ -12,14 +12,6 @@ use grid::sample::Sample;
 use line::solver::LineSolver;
 use panel_fault::PanelFault;
 
-// The number of the line at an index.
-fn line_number(index: usize) -> i32
-    requires { index < 256 }
-    ensures { result ≡ pos (index + 1) }
-{
-    index as i32 + 1
-}
-
 impl Panel {
     // The checks of make, on the panel's own sizes.
     fn may_fit<K: Sample>(
@@ -52,7 +44,7 @@ impl Panel {
         ensures after { map K.Sample.parts halves.new ≡ halves_fitted K.Sample.PARTS self.old S.LineSolver.meaning (map K.Sample.parts samples.now) (map K.Sample.parts halves.old) (first_lines self.old) }
     {
         for i in 0..self.first_lines() {
-            self.first_line(samples, halves, line_number(i), solver)?;
+            self.first_line(samples, halves, i32::from(i) + 1, solver)?;
         }
         Ok(())
     }
@@ -70,7 +62,7 @@ impl Panel {
         ensures after { map K.Sample.parts controls.new ≡ controls_fitted K.Sample.PARTS self.old S.LineSolver.meaning (map K.Sample.parts halves.now) (map K.Sample.parts controls.old) (second_lines self.old) }
     {
         for j in 0..self.second_lines() {
-            self.second_line(halves, controls, line_number(j), solver)?;
+            self.second_line(halves, controls, i32::from(j) + 1, solver)?;
         }
         Ok(())
     }

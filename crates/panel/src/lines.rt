@@ -18,6 +18,7 @@ use line::solver::LineSolver;
 use panel_fault::PanelFault;
 
 impl Panel {
+    // Below 256, so that its start fits.
     fn row_lane(&self, row: usize) -> Lane
         requires { row < 256 }
         ensures { result ≡ row_lane self.now row }
@@ -60,7 +61,7 @@ impl Panel {
         source: &[K],
         target: &[K],
         line: i32,
-        count: usize,
+        count: u8,
     ) -> Result<(), PanelFault>
         ensures { result ≡ result_and (checked (sized self.now (map K.Sample.parts source.now) && sized self.now (map K.Sample.parts target.now)) PanelFault.GridLength) (checked (between line 1 count) PanelFault.NoLine) }
     {
@@ -68,14 +69,14 @@ impl Panel {
             self.is_sized(source) && self.is_sized(target),
             PanelFault::GridLength,
         )?;
-        check(is_between(line, 1, count), PanelFault::NoLine)
+        check(is_between(line, 1, usize::from(count)), PanelFault::NoLine)
     }
 
     // Whether every first line is current.
     fn first_lines_are_current(&self) -> bool
         ensures { result ≡ all_current (first_lines self.now) self.now.first }
     {
-        all_current(&self.first, self.first_lines())
+        all_current(&self.first, usize::from(self.first_lines()))
     }
 
     // A first line ran, so every second line goes stale.

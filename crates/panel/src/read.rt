@@ -37,7 +37,7 @@ impl Panel {
     pub(crate) fn needed(&self, x: usize, y: usize) -> [usize; 4]
         ensures { result ≡ map (needed_line self.now x y) (range_with_len 0 4) }
     {
-        lines_around(self.second_lines(), self.order.pick(y, x))
+        lines_around(usize::from(self.second_lines()), self.order.pick(y, x))
     }
 
     // Whether each of them is current.
@@ -63,7 +63,7 @@ impl Panel {
     pub(crate) fn first_grade(&self) -> u8
         ensures { result ≡ greatest (λ i. grade_of (mark self.now.first i)) (first_lines self.now) }
     {
-        greatest_grade(&self.first, self.first_lines())
+        greatest_grade(&self.first, usize::from(self.first_lines()))
     }
 
     // A reading with its checks.

@@ -73,19 +73,17 @@ impl Order {
 
 impl Panel {
     // How many first lines there are.
-    pub(crate) fn first_lines(&self) -> usize
-        ensures value { result ≡ first_lines self.now }
-        ensures few { result < 256 }
+    pub(crate) fn first_lines(&self) -> u8
+        ensures { result ≡ first_lines self.now }
     {
-        usize::from(self.order.pick(self.size.rows, self.size.columns))
+        self.order.pick(self.size.rows, self.size.columns)
     }
 
     // How many second lines there are.
-    pub(crate) fn second_lines(&self) -> usize
-        ensures value { result ≡ second_lines self.now }
-        ensures few { result < 256 }
+    pub(crate) fn second_lines(&self) -> u8
+        ensures { result ≡ second_lines self.now }
     {
-        usize::from(self.order.pick(self.size.columns, self.size.rows))
+        self.order.pick(self.size.columns, self.size.rows)
     }
 }
 

@@ -111,7 +111,7 @@ impl Solved<'_> {
         requires { (Inside lane (length target.old)) × (lane.count ≤ 64) }
         ensures { map K.Sample.parts target.new ≡ stored lane (column K.Sample.PARTS self.now.parts.now) lane.count (map K.Sample.parts target.old) }
     {
-        // By entry: a lane is no slice.
+        // By entry: of a loop over `step_by` the proof would know what the iterator gave, and not the grid behind it.
         for e in 0..lane.count {
             let at = lane.index(e);
             target[at] = self.at(e, target[at]);
