@@ -1,10 +1,9 @@
 // Fitting a whole panel: every first line, then every second line.
-ghost use Rattle.std.specs.Prelude.{◌≡◌, ℕ, ◌+◌, ◌<◌, true, map, length, pos, is_err, Ok};
+ghost use Rattle.std.specs.Prelude.{◌≡◌, true, map, is_err, Ok};
 ghost use Rattle.grid.specs.Grid.{Grid};
-ghost use Rattle.line.specs.Line.{OnLine};
 ghost use Rattle.panel.specs.Calls.{all_current, first_lines, second_lines};
 ghost use Rattle.panel.specs.Fit.{fit_answer, fit_panel, fit_halves, fit_controls, fit_history, Fitted, firsts_panel, seconds_panel, halves_fitted, controls_fitted, FirstReady, SecondReady};
-ghost use Rattle.panel.specs.Runs.{Reached, History, ran_since};
+ghost use Rattle.panel.specs.Runs.{Reached, History};
 
 use crate::make::may_make;
 use crate::record::Panel;

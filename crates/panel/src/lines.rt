@@ -1,5 +1,5 @@
 // Fitting a first line and a second line: the same walk along the other lines of a grid, with another source and another factor.
-ghost use Rattle.std.specs.Prelude.{◌≡◌, ℕ, ◌<◌, ◌≤◌, true, ◌&&◌, map, is_err, unsigned_abs};
+ghost use Rattle.std.specs.Prelude.{◌≡◌, ◌<◌, true, ◌&&◌, map, is_err, unsigned_abs};
 ghost use Rattle.std.specs.Result.{result_and};
 ghost use Rattle.grid.specs.Checks.{check as checked};
 ghost use Rattle.grid.specs.Grid.{Grid};

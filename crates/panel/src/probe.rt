@@ -1,9 +1,9 @@
 // Probing a place again. Row and column stay the two numbers that a carver typed until they are checked; then they are a place.
-ghost use Rattle.std.specs.Prelude.{◌≡◌, ◌<◌, ◌≤◌, ◌&&◌, map, slice_set, unsigned_abs};
+ghost use Rattle.std.specs.Prelude.{◌≡◌, ◌<◌, ◌&&◌, map, slice_set, unsigned_abs};
 ghost use Rattle.grid.specs.Checks.{if_ok};
 ghost use Rattle.grid.specs.Grid.{Grid};
 ghost use Rattle.grid.specs.Place.{index};
-ghost use Rattle.panel.specs.Calls.{between, first_of, probe_limit, probed_panel, probe_answer, probe_panel, probe_samples};
+ghost use Rattle.panel.specs.Calls.{between, probe_limit, probed_panel, probe_answer, probe_panel, probe_samples};
 ghost use Rattle.panel.specs.Runs.{Reached, History, recorded};
 ghost use Rattle.panel.specs.Runs.Event.{probed};
 

@@ -1,5 +1,5 @@
 // What a panel is: its sizes, its line order, how often it was probed, and a mark for each line.
-ghost use Rattle.std.specs.Prelude.{◌≡◌, ◌*◌, ◌<◌, ◌≤◌};
+ghost use Rattle.std.specs.Prelude.{◌≡◌, ◌*◌, ◌<◌};
 ghost use Rattle.grid.specs.Place.{index};
 ghost use Rattle.panel.specs.Calls.{pick as chosen, first_lines, second_lines, grade_of, is_current, let_go};
 
