@@ -11,17 +11,17 @@ use crate::refusal::{FileFault, FileRefusal, Section};
 use grid::size::GridSize;
 
 // The offsets of the fields before the samples, and of the first sample.
-const SIZES_COUNT: usize = 0;
+const SIZES_COUNT_AT: usize = 0;
 
-const ROWS: usize = 2;
+const ROWS_AT: usize = 2;
 
-const COLUMNS: usize = 3;
+const COLUMNS_AT: usize = 3;
 
-pub(crate) const PARTS: usize = 4;
+pub(crate) const PARTS_AT: usize = 4;
 
-const SAMPLES_COUNT: usize = 5;
+const SAMPLES_COUNT_AT: usize = 5;
 
-pub(crate) const SAMPLES: usize = 7;
+pub(crate) const SAMPLES_AT: usize = 7;
 
 // What section 1 says: the size of the grid, and the kind of its samples.
 #[derive(Clone, Copy)]
@@ -55,11 +55,11 @@ pub(crate) fn sizes(file: &[u8]) -> Result<Shape, FileRefusal>
         (λ shape. (sizes_answer file.now ≡ Ok tt) × (shape.size ≡ size_of file.now) × (kind_parts shape.kind ≡ parts_of file.now))
         (λ refusal. sizes_answer file.now ≡ Err refusal) }
 {
-    let first = Section::Sizes.at(SIZES_COUNT);
+    let first = Section::Sizes.at(SIZES_COUNT_AT);
     first.require(first.count(file)? == 3, FileFault::WrongCount)?;
-    let rows = size_at(file, ROWS)?;
-    let columns = size_at(file, COLUMNS)?;
-    let parts = Section::Sizes.at(PARTS);
+    let rows = size_at(file, ROWS_AT)?;
+    let columns = size_at(file, COLUMNS_AT)?;
+    let parts = Section::Sizes.at(PARTS_AT);
     let kind = Kind::try_from(parts.byte(file)?).map_err(|fault| parts.refused(fault))?;
     Ok(Shape {
         size: GridSize { rows, columns },
@@ -88,7 +88,7 @@ fn parts_within(file: &[u8], first: Field, count: usize) -> Result<Field, FileRe
 pub(crate) fn samples(file: &[u8], shape: Shape) -> Result<usize, FileRefusal>
     ensures { result ≡ result_and (samples_answer file.now shape.size (kind_parts shape.kind)) (Ok (samples_end shape.size (kind_parts shape.kind))) }
 {
-    let first = Section::Samples.at(SAMPLES_COUNT);
+    let first = Section::Samples.at(SAMPLES_COUNT_AT);
     let count = first.count(file)?;
     first.require(
         usize::from(count) == shape.size.count(),
