@@ -47,6 +47,7 @@ fn store<K: Sample>(file: &[u8], grid: &mut [K])
     ensures { map K.Sample.parts grid.new ≡ samples_of file.now K.Sample.PARTS (length grid.old) }
 {
     let width = K::PARTS * 4;
+    // The offset is worked out: after a zip of `iter_mut` with the file's chunks a proof knows none of the elements.
     for (i, sample) in grid.iter_mut().enumerate() {
         let at = SAMPLES_AT + i * width;
         *sample = sample_from(&file[at..at + width], *sample);
