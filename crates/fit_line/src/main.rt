@@ -19,22 +19,22 @@ fn show_worked(rt: &HostRuntime) -> anyhow::Result<()> {
 }
 
 // The bytes of a text; one more than the limit if it is longer.
-fn text_of<R: Read + Drop>(rt: &HostRuntime, source: R) -> io::Result<Vec<u8>> {
+fn bytes_of<R: Read + Drop>(rt: &HostRuntime, source: R) -> io::Result<Vec<u8>> {
     start_of(rt.alloc(), source, LONGEST_TEXT + 1)
 }
 
-fn text_of_file(rt: &HostRuntime, path: &str) -> io::Result<Vec<u8>> {
-    text_of(rt, fs::open(rt, path)?)
+fn bytes_of_file(rt: &HostRuntime, path: &str) -> io::Result<Vec<u8>> {
+    bytes_of(rt, fs::open(rt, path)?)
 }
 
 // Each file in turn, or standard input.
 fn show_given(rt: &HostRuntime) -> anyhow::Result<()> {
     let mut paths = env::args(rt)?.skip(1).peekable();
     if paths.peek().is_none() {
-        return show_text(rt, "standard input", text_of(rt, rt.stdin()));
+        return show_text(rt, "standard input", bytes_of(rt, rt.stdin()));
     }
     for path in paths {
-        show_text(rt, path.as_str(), text_of_file(rt, path.as_str()))?;
+        show_text(rt, path.as_str(), bytes_of_file(rt, path.as_str()))?;
     }
     Ok(())
 }

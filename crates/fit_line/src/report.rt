@@ -48,14 +48,16 @@ pub(crate) fn show_text(
 fn show_words(rt: &HostRuntime, name: &str, text: &str) -> anyhow::Result<()> {
     match numbers_of(rt.alloc(), text) {
         Ok(numbers) => show_line(rt, name, numbers.as_slice()),
-        Err(TextFault::Word(place)) => Ok(show_bad_word(rt, name, place, text)?),
+        Err(fault @ TextFault::Word(place)) => {
+            print!(rt; "{name}: {fault}")?;
+            Ok(show_bad_word(rt, place, text)?)
+        }
         Err(fault) => Err(fault.into()),
     }
 }
 
-// Which word is no number, and the word itself where it is short.
-fn show_bad_word(rt: &HostRuntime, name: &str, place: usize, text: &str) -> io::Result<()> {
-    print!(rt; "{name}: {}", TextFault::Word(place))?;
+// The word itself where it is short, and the end of the line.
+fn show_bad_word(rt: &HostRuntime, place: usize, text: &str) -> io::Result<()> {
     if let Some(word) = text.split_whitespace().nth(place.saturating_sub(1)) {
         if word.len() <= LONGEST_WORD {
             print!(rt; ": {word:?}")?;

@@ -7,7 +7,7 @@ use std::alloc::Global;
 use std::io;
 use std::io::Read;
 
-// At most so many bytes: the first ones, wherever it is known which the source gives.
+// At most so many bytes of a source. Where it is known what the source gives, they are its first ones.
 pub fn start_of<R: Read + Drop>(alloc: Global, source: R, limit: usize) -> io::Result<Vec<u8>>
     ensures { IfOk result (λ bytes. IfSome (R.remaining source) (λ given. bytes.items ≡ take limit given)) }
 {

@@ -25,7 +25,7 @@ fn print_load<K: Sample + Clone>(
         Err(FillFault::File(refusal)) => println!(rt;
             "{refusal}: this controller carves from samples with another number of parts"
         ),
-        Err(FillFault::GridLength) => println!(rt; "refused 41: the grid has another length"),
+        Err(fault) => println!(rt; "refused {}: {fault}", fault.number()),
     }
 }
 

@@ -148,6 +148,8 @@ pub(crate) struct Pivot {
     ghost small: { 3 * unsigned_abs w ≤ denominator },
 }
 
+// `inner` and `last` are two functions over two tables: their rows and promises differ, and one function with a branch was tried, which
+// costs 2,475 instructions a line where 2,151 are enough.
 impl Pivot {
     // The pivot of row j in every line that goes on after it.
     pub(crate) fn inner(j: usize) -> Pivot

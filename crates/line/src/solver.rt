@@ -31,6 +31,7 @@ impl SolveFault {
     pub fn number(&self) -> u8
         ensures { result ≡ fault_number self.now }
     {
+        // A match, since variants that hold something have no discriminants to cast.
         match self {
             SolveFault::Length => 1,
             SolveFault::Output => 2,
@@ -41,9 +42,10 @@ impl SolveFault {
 
 // A line solver: a fixed rule from lines to lines, with residuals between -GRADE and GRADE.
 pub trait LineSolver {
-    // The grade, and its name in clauses and laws. That it is 1 to 12 is said of `meaning`.
+    // The grade, from 1 to 12: the law `sound` says so.
     const GRADE: u8;
 
+    // Names it in clauses and laws.
     ghost GRADE: { ℕ };
 
     // The rule and the grade.

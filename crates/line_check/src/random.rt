@@ -1,4 +1,5 @@
-// A seeded generator, so that every run has the same lines.
+// A seeded generator, so that every run has the same lines. The program panel_bench has a generator of its own: the two draw other
+// ranges, and a crate for ten lines would be no plainer.
 use line::solver::{LIMIT, LONGEST};
 
 #[derive(Drop)]

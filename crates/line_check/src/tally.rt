@@ -26,6 +26,7 @@ impl Tally {
     pub(crate) fn take(&mut self, line: &[i64])
         requires { length line.now ≤ LONGEST }
     {
+        // Room for the longest line, so that no heap is asked for.
         let mut room = [0; LONGEST];
         let answer = &mut room[..line.len()];
         self.lines = self.lines.saturating_add(1);

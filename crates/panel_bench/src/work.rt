@@ -10,7 +10,8 @@ pub(crate) enum Work {
     Read,
 }
 
-// Random bits, the same in every run.
+// Random bits, the same in every run. The program line_check has a generator of its own: the two draw other ranges, and a crate for
+// ten lines would be no plainer.
 #[derive(Drop)]
 struct Random {
     state: u64,

@@ -12,17 +12,17 @@ use Rattle.panel_file.specs.declared.field.Field.{Field}
 use Rattle.panel_file.specs.declared.refusal.FileFault.{FileFault}
 use Rattle.panel_file.specs.declared.refusal.FileRefusal.{FileRefusal}
 use Rattle.panel_file.specs.Field.{Answer, field, fields}
+use Rattle.panel_file.specs.Walk.{step_over, walk_over}
 
 module _ (file : List ℕ) (fault : FileFault) (width : ℕ) (holds : ℕ → Bool) where
   abbrev pub moved : Field → ℕ → Field
   moved here n = record { section = here.section; at = here.at + n }
 
-  -- What a step over one field answers, and what a walk over so many.
-  abbrev pub one : Field → Result Field FileRefusal
-  one here = result_and (field file here.section fault width holds here.at) (Ok (moved here width))
+  abbrev one : Field → Result Field FileRefusal
+  one = step_over file fault width holds
 
-  abbrev pub row : ℕ → Field → Result Field FileRefusal
-  row n here = result_and (fields file here.section fault width holds n here.at) (Ok (moved here (n * width)))
+  abbrev row : ℕ → Field → Result Field FileRefusal
+  row = walk_over file fault width holds
 
   row_none : (here : Field) → Ok here ≡ row 0 here
   row_none here =

@@ -7,3 +7,4 @@ pub mod Open
 pub mod Fill
 pub mod Format
 pub mod Laws
+pub mod Walk

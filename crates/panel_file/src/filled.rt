@@ -7,7 +7,7 @@ ghost use Rattle.panel_file.specs.Laws.{FillsExactly};
 use crate::field::part_of;
 use crate::opened::open;
 use crate::refusal::{FileFault, FillFault, Section};
-use crate::section::{PARTS, SAMPLES};
+use crate::section::{PARTS_AT, SAMPLES_AT};
 use grid::sample::Sample;
 
 // The checks of the file, then of the grid: how many parts its kind has, and how many samples it has room for. The file then has all
@@ -17,7 +17,7 @@ fn admit(file: &[u8], parts: usize, room: usize) -> Result<(), FillFault>
     ensures enough { OnOk result (7 + room * (parts * 4) ≤ length file.now) }
 {
     let opened = open(file)?;
-    Section::Sizes.at(PARTS).require(
+    Section::Sizes.at(PARTS_AT).require(
         usize::from(opened.kind.parts()) == parts,
         FileFault::WrongParts,
     )?;
@@ -47,8 +47,9 @@ fn store<K: Sample>(file: &[u8], grid: &mut [K])
     ensures { map K.Sample.parts grid.new ≡ samples_of file.now K.Sample.PARTS (length grid.old) }
 {
     let width = K::PARTS * 4;
+    // The offset is worked out: after a zip of `iter_mut` with the file's chunks a proof knows none of the elements.
     for (i, sample) in grid.iter_mut().enumerate() {
-        let at = SAMPLES + i * width;
+        let at = SAMPLES_AT + i * width;
         *sample = sample_from(&file[at..at + width], *sample);
     }
 }

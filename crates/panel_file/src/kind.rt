@@ -1,4 +1,7 @@
 // The kinds of sample that a panel file can have.
+ghost use Rattle.std.specs.Prelude.{◌≡◌};
+ghost use Rattle.panel_file.specs.Kind.{kind_parts, kind_with};
+
 use crate::refusal::FileFault;
 
 // A kind by how many parts each sample has.
@@ -9,9 +12,6 @@ pub enum Kind {
 }
 
 impl Kind {
-    ghost use Rattle.std.specs.Prelude.{◌≡◌};
-    ghost use Rattle.panel_file.specs.Kind.{kind_parts};
-
     // How many parts each sample has.
     pub fn parts(self) -> u8
         ensures { result ≡ kind_parts self }
@@ -21,9 +21,6 @@ impl Kind {
 }
 
 impl TryFrom<u8> for Kind {
-    ghost use Rattle.std.specs.Prelude.{◌≡◌};
-    ghost use Rattle.panel_file.specs.Kind.{kind_with};
-
     type Error = FileFault;
 
     ghost try_from_gives = { λ parts kind. kind ≡ kind_with parts };

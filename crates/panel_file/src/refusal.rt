@@ -41,9 +41,11 @@ pub struct FileRefusal {
 }
 
 // Why a grid is not filled: the file's author or the host is the cause.
-#[derive(Clone, Copy, PartialEq, Eq, Debug)]
+#[derive(Clone, Copy, PartialEq, Eq, Debug, Error)]
 pub enum FillFault {
+    #[error("{0}")]
     File(FileRefusal),
+    #[error("the grid has another length")]
     GridLength,
 }
 
@@ -67,6 +69,7 @@ impl FillFault {
     pub fn number(self) -> u8
         ensures { result ≡ fill_number self }
     {
+        // A match, since variants that hold something have no discriminants to cast.
         match self {
             FillFault::File(refusal) => refusal.fault.number(),
             FillFault::GridLength => 41,
