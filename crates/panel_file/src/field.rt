@@ -1,5 +1,5 @@
 // The fields of a panel file, each read only where the file has all of its bytes.
-ghost use Rattle.std.specs.Prelude.{◌≡◌, ◌+◌, ◌≤◌, ◌^◌, ◌<◌, take, drop, length, Ok};
+ghost use Rattle.std.specs.Prelude.{◌≡◌, ◌+◌, ◌^◌, ◌<◌, take, drop, Ok};
 ghost use Rattle.std.specs.Result.{result_and};
 ghost use Rattle.grid.specs.Checks.{check};
 ghost use Rattle.panel_file.specs.Field.{byte_at, count_at, part_at, present, refused};
