@@ -3,7 +3,7 @@ use Rattle.std.proofs.Common.{◌≡◌, ℕ, ◌≤◌, true, pos, ◌*ℤ◌, 
 use Rattle.line.specs.Line.{OnLine}
 use Rattle.line.proofs.Rules.{sized}
 use Rattle.line.proofs.Doubled.{doubled}
-use Rattle.std.specs.List.{AllByRecursion}
+use Rattle.std.specs.List.{All}
 use Rattle.grid.specs.Grid.{Grid}
 use Rattle.panel.specs.declared.record.Panel.{Panel}
 use Rattle.panel.specs.Calls.{State, pick, first_lines, second_lines, meeting, mark, is_current}
@@ -14,7 +14,7 @@ use Rattle.panel.proofs.Ready.{sixteen_low}
 use Rattle.panel.proofs.Invariant.{Invariant}
 
 -- Half points that fit low samples are low.
-pub fitted_low : (p : Panel) (samples halves : Grid) (part i g : ℕ) → AllByRecursion Low samples → g ≤ 12 → FirstFits p samples halves part i g → (j : ℕ) → OnLine (second_lines p) j →
+pub fitted_low : (p : Panel) (samples halves : Grid) (part i g : ℕ) → All Low samples → g ≤ 12 → FirstFits p samples halves part i g → (j : ℕ) → OnLine (second_lines p) j →
     nat_abs (meeting p halves part i j) ≤ 4800006
 fitted_low p samples halves part i g low small fits j on_j =
     let twice = sized (doubled (second_lines p)) (λ j. pos 16 *ℤ meeting p samples part i j) (meeting p halves part i) 1600000 g

@@ -1,6 +1,6 @@
 -- What holds of every state that calls have reached.
 use Rattle.std.proofs.Common.{◌≡◌, ℕ, ◌*◌, ◌≤◌, Bool, true, false, cond, length, refl}
-use Rattle.std.specs.List.{AllByRecursion}
+use Rattle.std.specs.List.{All}
 use Rattle.std.proofs.lemmas.Bool.{both_ways}
 use Rattle.line.specs.Line.{OnLine}
 use Rattle.panel.specs.declared.record.Panel.{Panel}
@@ -21,8 +21,8 @@ pub record Invariant (parts : ℕ) (m : Grid) (st : State) (h : History) : Type 
   pub samples_long : length st.samples ≡ st.panel.size.rows * st.panel.size.columns
   pub halves_long : length st.halves ≡ st.panel.size.rows * st.panel.size.columns
   pub controls_long : length st.controls ≡ st.panel.size.rows * st.panel.size.columns
-  pub samples_whole : AllByRecursion (λ v. length v ≡ parts) st.samples
-  pub samples_low : AllByRecursion Low st.samples
+  pub samples_whole : All (λ v. length v ≡ parts) st.samples
+  pub samples_low : All Low st.samples
   pub samples_held : (part r s : ℕ) → OnLine st.panel.size.rows r → OnLine st.panel.size.columns s → at st.panel.size.columns st.samples part r s ≡ held st.panel.size.columns m h part r s
   pub first_long : length st.panel.first ≡ 64
   pub second_long : length st.panel.second ≡ 64

@@ -1,6 +1,6 @@
 -- The invariant after an accepted make.
 use Rattle.std.proofs.Common.{◌≡◌, ℕ, zero, suc, ◌-◌, ◌*◌, eqb, [], length, get_or, replicate, ℤ, nat_abs, Ok, sym, refl, ap, ◌∙◌, arith}
-use Rattle.std.specs.List.{AllByRecursion}
+use Rattle.std.specs.List.{All}
 use Rattle.std.proofs.lemmas.Bool.{eqb-true}
 use Rattle.panel.specs.declared.record.Order.{Order}
 use Rattle.panel_fault.specs.declared.PanelFault.TheVariants.{Size, GridLength}
@@ -17,7 +17,7 @@ unrun_mark zero k = refl
 unrun_mark (suc n) zero = refl
 unrun_mark (suc n) (suc k) = unrun_mark n k
 
-pub from_make : (parts : ℕ) (m : Grid) (rows columns : ℤ) (o : Order) (halves controls : Grid) → make_answer rows columns m halves controls ≡ Ok tt → AllByRecursion (λ v. length v ≡ parts) m →
+pub from_make : (parts : ℕ) (m : Grid) (rows columns : ℤ) (o : Order) (halves controls : Grid) → make_answer rows columns m halves controls ≡ Ok tt → All (λ v. length v ≡ parts) m →
     Invariant parts m (record { panel = new_panel rows columns o; samples = m; halves = halves; controls = controls }) []
 from_make parts m rows columns o halves controls ok whole =
     let a = both_good (check (between rows 2 64) Size) _ ok in

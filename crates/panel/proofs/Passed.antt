@@ -1,6 +1,7 @@
 -- What an accepted call says of its checks.
 use Rattle.std.proofs.Common.{◌≡◌, ℕ, zero, suc, ◌+◌, ◌*◌, ◌/◌, ◌%◌, ◌<◌, ◌≤◌, true, ◌&&◌, leb, List, [], ◌∷◌, length, get_or, ℤ, pos, nat_abs, Ok, Err, Result, refl, subst, inl, inr, arith, rules}
-use Rattle.std.specs.List.{AllByRecursion}
+use Rattle.std.specs.List.{All}
+use Rattle.std.proofs.lemmas.List.Elements.{All-nil, All-cons, All-head, All-tail}
 use Rattle.std.proofs.lemmas.Int.{ints}
 use Rattle.std.proofs.lemmas.Bool.{leb-true, eqb-true, and_parts, cases_eq}
 use Rattle.std.proofs.lemmas.Bool.Decides.{nat_tests}
@@ -23,32 +24,32 @@ between_is v low high h = grind (arith, ints, nat_tests)
 
 -- Parts and samples within the limit.
 abbrev pub Low : List ℤ → Type 0
-Low = AllByRecursion (λ x. nat_abs x ≤ part_limit)
+Low = All (λ x. nat_abs x ≤ part_limit)
 
 pub low_parts : (r s k : ℕ) (v : List ℤ) → parts_within r s k v ≡ Ok tt → Low v
-low_parts r s k [] h = tt
+low_parts r s k [] h = All-nil (λ x. nat_abs x ≤ part_limit)
 low_parts r s k (x ∷ v) h =
     let t = both_good (check (leb (nat_abs x) part_limit) _) (parts_within r s (k + 1) v) h in
-    (leb-true (nat_abs x) part_limit (held _ _ t.0), low_parts r s (k + 1) v t.1)
+    All-cons (λ x. nat_abs x ≤ part_limit) x v (leb-true (nat_abs x) part_limit (held _ _ t.0)) (low_parts r s (k + 1) v t.1)
 
-pub low_grid : (columns k : ℕ) (g : Grid) → grid_within columns k g ≡ Ok tt → AllByRecursion Low g
-low_grid columns k [] h = tt
+pub low_grid : (columns k : ℕ) (g : Grid) → grid_within columns k g ≡ Ok tt → All Low g
+low_grid columns k [] h = All-nil Low
 low_grid columns k (v ∷ g) h =
     let t = both_good (parts_within (k / columns + 1) (k % columns + 1) 1 v) (grid_within columns (k + 1) g) h in
-    (low_parts _ _ _ v t.0, low_grid columns (k + 1) g t.1)
+    All-cons Low v g (low_parts _ _ _ v t.0) (low_grid columns (k + 1) g t.1)
 
 -- 0 stands past the end of a list, so a bound on its elements needs no place.
-within_any : (b : ℕ) (v : List ℤ) (k : ℕ) → AllByRecursion (λ x. nat_abs x ≤ b) v → nat_abs (get_or v k (pos 0)) ≤ b
+within_any : (b : ℕ) (v : List ℤ) (k : ℕ) → All (λ x. nat_abs x ≤ b) v → nat_abs (get_or v k (pos 0)) ≤ b
 within_any b [] k h = omega arith
-within_any b (x ∷ v) zero h = h.0
-within_any b (x ∷ v) (suc k) h = within_any b v k h.1
+within_any b (x ∷ v) zero h = All-head (λ x. nat_abs x ≤ b) x v h
+within_any b (x ∷ v) (suc k) h = within_any b v k (All-tail (λ x. nat_abs x ≤ b) x v h)
 
-low_any : (g : Grid) (k : ℕ) → AllByRecursion Low g → Low (get_or g k [])
-low_any [] k h = tt
-low_any (v ∷ g) zero h = h.0
-low_any (v ∷ g) (suc k) h = low_any g k h.1
+low_any : (g : Grid) (k : ℕ) → All Low g → Low (get_or g k [])
+low_any [] k h = All-nil (λ x. nat_abs x ≤ part_limit)
+low_any (v ∷ g) zero h = All-head Low v g h
+low_any (v ∷ g) (suc k) h = low_any g k (All-tail Low v g h)
 
-pub low_at : (columns : ℕ) (g : Grid) (part r s : ℕ) → AllByRecursion Low g → nat_abs (at columns g part r s) ≤ part_limit
+pub low_at : (columns : ℕ) (g : Grid) (part r s : ℕ) → All Low g → nat_abs (at columns g part r s) ≤ part_limit
 low_at columns g zero r s h = omega arith
 low_at columns g (suc part) r s h = within_any part_limit (sample_at columns g r s) part (low_any g _ h)
 

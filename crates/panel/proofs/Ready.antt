@@ -1,8 +1,8 @@
 -- When every line can run: a line call is refused only for its number or a stale first line.
 use Rattle.std.proofs.Common.{◌≡◌, ℕ, zero, suc, ◌+◌, ◌<◌, ◌≤◌, Bool, true, false, ◌&&◌, eqb, leb, List, [], ◌∷◌, map, length, get_or, ℤ, pos, ◌*ℤ◌, nat_abs, Ok, Err, Result, sym, refl, ap, ◌∙◌, subst, le_trans, arith}
-use Rattle.std.specs.List.{range_with_len, AllByRecursion}
+use Rattle.std.specs.List.{range_with_len, All}
 use Rattle.std.proofs.lemmas.List.FromFn.{length-map-range_with_len}
-use Rattle.std.proofs.ByRecursion.{All-from_get_or}
+use Rattle.std.proofs.lemmas.List.Elements.{All-from_get_or, All-head, All-tail}
 use Rattle.std.proofs.lemmas.Int.{ints}
 use Rattle.std.proofs.lemmas.Bool.{cond-true, le-leb, eq-eqb, and_from, false≢true}
 use Rattle.std.specs.Result.{result_and}
@@ -22,9 +22,9 @@ use Rattle.panel.proofs.Places.{place_counted}
 use Rattle.panel.proofs.Passed.{between_is, low_at}
 use Rattle.panel.proofs.Invariant.{few_lines}
 
-none_beyond : (j : ℕ) (k : List ℤ) → AllByRecursion (λ x. nat_abs x ≤ limit) k → first_beyond j k ≡ Ok tt
+none_beyond : (j : ℕ) (k : List ℤ) → All (λ x. nat_abs x ≤ limit) k → first_beyond j k ≡ Ok tt
 none_beyond j [] h = refl
-none_beyond j (x ∷ k) h = cond-true (leb (nat_abs x) limit) (first_beyond (j + 1) k) (Err (Beyond j)) (le-leb _ _ h.0) ∙ none_beyond (j + 1) k h.1
+none_beyond j (x ∷ k) h = cond-true (leb (nat_abs x) limit) (first_beyond (j + 1) k) (Err (Beyond j)) (le-leb _ _ (All-head (λ x. nat_abs x ≤ limit) x k h)) ∙ none_beyond (j + 1) k (All-tail (λ x. nat_abs x ≤ limit) x k h)
 
 takes : (k : List ℤ) → Admitted k → solve_answer k (length k) ≡ Ok tt
 takes k t =

@@ -1,6 +1,7 @@
 -- What a call leaves is reached, if what it was given is: from the equations of the calls' contracts.
-use Rattle.std.proofs.Common.{◌≡◌, ℕ, List, [], ◌∷◌, map, length, ℤ, nat_abs, Ok, Err, Result, sym, refl, ap, subst, ap₂, subst₂}
-use Rattle.std.specs.List.{AllByRecursion}
+use Rattle.std.proofs.Common.{get_or, ◌≡◌, ℕ, List, map, length, ℤ, nat_abs, Ok, Err, Result, sym, refl, ap, subst, ap₂, subst₂}
+use Rattle.std.specs.List.{All}
+use Rattle.std.proofs.lemmas.List.Elements.{All-map}
 use Rattle.std.specs.Result.{result_and}
 use Rattle.line.specs.Solver.{Solver, Sound}
 use Rattle.panel.specs.declared.record.Panel.{Panel}
@@ -24,9 +25,8 @@ pub moved : {parts : ℕ} {m : Grid} {h h' : History} {st st' : State} → st' �
 moved {parts} {m} e f reached = subst₂ (Reached parts m) (sym e) (sym f) reached
 
 -- Samples of one kind have one number of parts.
-pub whole_grid : {K : Type 0} (f : K → List ℤ) (parts : ℕ) → ((s : K) → length (f s) ≡ parts) → (samples : List K) → AllByRecursion (λ v. length v ≡ parts) (map f samples)
-whole_grid f parts whole [] = tt
-whole_grid f parts whole (s ∷ samples) = (whole s, whole_grid f parts whole samples)
+pub whole_grid : {K : Type 0} (f : K → List ℤ) (parts : ℕ) → ((s : K) → length (f s) ≡ parts) → (samples : List K) → All (λ v. length v ≡ parts) (map f samples)
+whole_grid f parts whole samples = All-map (λ v. length v ≡ parts) f samples (λ k s low. whole (get_or samples k s))
 
 module _ (parts : ℕ) (rows columns : ℤ) (o : Order) (samples halves controls : Grid) (r : Result Panel PanelFault) (e : r ≡ make_result rows columns o samples halves controls) where
   -- what follows an accepted make of each answer
@@ -37,7 +37,7 @@ module _ (parts : ℕ) (rows columns : ℤ) (o : Order) (samples halves controls
       go (Ok u) ok = good ok
       go (Err x) ok = bad x
 
-  pub make_begins : AllByRecursion (λ v. length v ≡ parts) samples → Begins parts samples halves controls r
+  pub make_begins : All (λ v. length v ≡ parts) samples → Begins parts samples halves controls r
   make_begins whole = by_answer (Begins parts samples halves controls) (λ ok. make rows columns o halves controls ok whole) (λ _. tt)
 
   pub make_has_surface : HasOneSurface parts samples r

@@ -1,6 +1,7 @@
 -- A whole fit: after the checks of make no line is refused, first lines leave half points that every second line takes.
 use Rattle.std.proofs.Common.{◌≡◌, ℕ, zero, suc, ◌+◌, ◌*◌, ◌<◌, ◌≤◌, Bool, true, false, cond, ◌||◌, eqb, leb, ◌⊎◌, List, [], ◌∷◌, length, ℤ, pos, ◌*ℤ◌, nat_abs, Ok, sym, refl, ap, ◌∙◌, subst, ap₂, inl, inr, add-one, arith}
-use Rattle.std.specs.List.{AllByRecursion}
+use Rattle.std.specs.List.{All}
+use Rattle.std.proofs.lemmas.List.Elements.{All-head, All-tail}
 use Rattle.std.proofs.lemmas.List.FromFn.{length-map-range_with_len}
 use Rattle.std.proofs.lemmas.List.{length-set}
 use Rattle.std.proofs.lemmas.Bool.{eqb-true, eq-eqb, le-leb, cases_eq, or_left, or_right}
@@ -49,11 +50,11 @@ ready_to_fit p samples halves controls ok =
 parts_pass : (r s k : ℕ) (v : List ℤ) → Low v → parts_within r s k v ≡ Ok tt
 parts_pass r s k [] low = refl
 parts_pass r s k (x ∷ v) low =
-    then_passed (leb (nat_abs x) part_limit) (PartBeyond r s k) (parts_within r s (k + 1) v) (le-leb _ _ low.0) ∙ parts_pass r s (k + 1) v low.1
+    then_passed (leb (nat_abs x) part_limit) (PartBeyond r s k) (parts_within r s (k + 1) v) (le-leb _ _ (All-head (λ x. nat_abs x ≤ part_limit) x v low)) ∙ parts_pass r s (k + 1) v (All-tail (λ x. nat_abs x ≤ part_limit) x v low)
 
-grid_passes : (columns k : ℕ) (g : Grid) → AllByRecursion Low g → grid_within columns k g ≡ Ok tt
+grid_passes : (columns k : ℕ) (g : Grid) → All Low g → grid_within columns k g ≡ Ok tt
 grid_passes columns k [] low = refl
-grid_passes columns k (v ∷ g) low = over _ (grid_within columns (k + 1) g) tt (parts_pass _ _ 1 v low.0) ∙ grid_passes columns (k + 1) g low.1
+grid_passes columns k (v ∷ g) low = over _ (grid_within columns (k + 1) g) tt (parts_pass _ _ 1 v (All-head Low v g low)) ∙ grid_passes columns (k + 1) g (All-tail Low v g low)
 
 number_between : (v low high : ℕ) → low ≤ v → v ≤ high → between (pos v) low high ≡ true
 number_between v low high a b = grind (arith, nat_tests)

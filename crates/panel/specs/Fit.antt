@@ -1,6 +1,6 @@
 -- What fit answers, and what it leaves: every first line in order, and then every second line, by two solvers.
 use Rattle.std.specs.Prelude.{◌≡◌, ℕ, zero, suc, ◌*◌, ◌≤◌, true, List, ◌∷◌, length, pos, Ok, unsigned_abs}
-use Rattle.std.specs.List.{AllByRecursion}
+use Rattle.std.specs.List.{All}
 use Rattle.grid.specs.Checks.{if_ok}
 use Rattle.grid.specs.Grid.{Grid}
 use Rattle.line.specs.Line.{OnLine}
@@ -88,7 +88,7 @@ pub record FirstReady (p : Panel) (samples halves : Grid) : Type 0 where
   pub columns_within : (2 ≤ p.size.columns) × (p.size.columns ≤ 64)
   pub samples_long : length samples ≡ p.size.rows * p.size.columns
   pub halves_long : length halves ≡ p.size.rows * p.size.columns
-  pub samples_low : AllByRecursion (AllByRecursion (λ x. unsigned_abs x ≤ part_limit)) samples
+  pub samples_low : All (All (λ x. unsigned_abs x ≤ part_limit)) samples
 
 pub record SecondReady (parts : ℕ) (p : Panel) (halves controls : Grid) : Type 0 where
   pub rows_within : (2 ≤ p.size.rows) × (p.size.rows ≤ 64)

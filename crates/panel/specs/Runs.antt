@@ -2,7 +2,7 @@
 -- A run begins with an accepted make. Calls follow in any order and number, refused ones among them, each from what the one before
 -- left, each line call with a solver of its own. The steps are what the contracts of the calls themselves promise.
 use Rattle.std.specs.Prelude.{◌≡◌, ℕ, ◌+◌, ◌-◌, ◌*◌, ◌<◌, ◌≤◌, Bool, true, false, if◌then◌else◌, not, ◌&&◌, ◌||◌, List, [], ◌∷◌, length, ℤ, pos, ◌-ℤ◌, ◌*ℤ◌, IfOk, Ok, Err, Result, MatchResult, ◌==◌, unsigned_abs}
-use Rattle.std.specs.List.{AllByRecursion}
+use Rattle.std.specs.List.{All}
 use Rattle.std.specs.Result.{result_and}
 use Rattle.grid.specs.Checks.{check}
 use Rattle.grid.specs.Grid.{Grid, at}
@@ -36,7 +36,7 @@ recorded (Err _) e h = h
 -- A state that a run of calls has reached: `made` are the samples of its make, and the history lists its accepted calls.
 pub data Reached (parts : ℕ) (made : Grid) : State → History → Type 0 where
   make : (rows columns : ℤ) (o : Order) (halves controls : Grid) → make_answer rows columns made halves controls ≡ Ok tt →
-      AllByRecursion (λ s. length s ≡ parts) made →
+      All (λ s. length s ≡ parts) made →
       Reached parts made (record { panel = new_panel rows columns o; samples = made; halves = halves; controls = controls }) []
   probe : {s : State} {h : History} → Reached parts made s h → (row column : ℤ) (new : List ℤ) → length new ≡ parts →
       Reached parts made (probe_after s row column new) (recorded (probe_answer s.panel s.samples row column new) (probed (unsigned_abs row) (unsigned_abs column) new) h)
