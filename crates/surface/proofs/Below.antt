@@ -1,6 +1,8 @@
 -- A test of every number below another.
-use Rattle.std.proofs.Common.{◌≡◌, ℕ, zero, suc, ◌+◌, ◌<◌, ◌≤◌, Bool, true, false, ◌⊎◌, List, [], ◌∷◌, get_or, ◌&&◌, sym, refl, ap, ap₂, ◌∙◌, inl, inr, arith}
+use Rattle.std.proofs.Common.{◌≡◌, ℕ, zero, suc, ◌+◌, ◌<◌, ◌≤◌, Bool, true, false, ◌⊎◌, List, get_or, length, ◌&&◌, sym, refl, ap, ap₂, ◌∙◌, inl, inr, arith}
 use Rattle.std.proofs.lemmas.Bool.{cases_eq, and_cases, and_from, and_parts, true≢false}
+use Rattle.std.proofs.lemmas.List.Folds.{list_all-map}
+use Rattle.std.proofs.lemmas.Simd.{pick_l_whole}
 use Rattle.std.specs.List.{list_all, range_with_len}
 use Rattle.surface.specs.Patch.{all_below}
 
@@ -59,8 +61,6 @@ below_same n f g e = range_same 0 n (λ i low high. e i (omega arith))
 
 -- Of a list
 
--- what every element passes, and what stands past the end, passes at each index
-pub all_at : {A : Type 0} (f : A → Bool) (xs : List A) (d : A) → f d ≡ true → list_all f xs ≡ true → (k : ℕ) → f (get_or xs k d) ≡ true
-all_at f [] d past all k = past
-all_at f (x ∷ xs) d past all zero = (and_parts (f x) (list_all f xs) all).0
-all_at f (x ∷ xs) d past all (suc k) = all_at f xs d past (and_parts (f x) (list_all f xs) all).1 k
+-- a test of every element is one of every index below the length
+pub all_by_index : {A : Type 0} (f : A → Bool) (xs : List A) (d : A) (n : ℕ) → length xs ≡ n → list_all f xs ≡ all_below n (λ k. f (get_or xs k d))
+all_by_index f xs d n long = ap (list_all f) (sym (pick_l_whole d xs n long)) ∙ list_all-map f (λ k. get_or xs k d) (range_with_len 0 n)

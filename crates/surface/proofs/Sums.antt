@@ -1,14 +1,13 @@
 -- Sums of weighed numbers stay within 64 bits.
-use Rattle.std.proofs.Common.{◌≡◌, ℕ, zero, suc, ◌*◌, ◌%◌, ◌^◌, ◌<◌, ◌≤◌, Bool, true, cond, leb, List, [], ◌∷◌, get_or, ℤ, pos, ◌+ℤ◌, ◌*ℤ◌, nat_abs, Some, None, refl, sym, ap, ◌∙◌, mul-le-mul, arith, w32, w64, SFits, to_z, of_z}
+use Rattle.std.proofs.Common.{◌≡◌, ℕ, zero, suc, ◌*◌, ◌%◌, ◌^◌, ◌<◌, ◌≤◌, Bool, true, cond, leb, List, [], ◌∷◌, get_or, ℤ, pos, ◌+ℤ◌, ◌*ℤ◌, nat_abs, Some, None, sym, ap, ◌∙◌, mul-le-mul, arith, w32, w64, SFits, to_z, of_z}
 use lib.Signed.{mag}
 use Rattle.std.proofs.lemmas.Int.{ints, to_z-of_z, unsigned_abs-mul, fits_signed_from_abs}
 use Rattle.std.proofs.lemmas.Bool.{leb-true}
 use Rattle.line.proofs.Casts.{same64}
 use Rattle.surface.specs.Surface.{weight, rounded}
 use Rattle.surface.specs.Products.{Low, products, products_of}
-use Rattle.surface.specs.Patch.{reach, rows_within, weights_at, point, sum_around, patch_reading}
-use Rattle.std.specs.List.{list_all}
-use Rattle.surface.proofs.Below.{all_at}
+use Rattle.surface.specs.Patch.{reach, all_below, within_reach, weights_at, point, sum_around, patch_reading}
+use Rattle.surface.proofs.Below.{at_below}
 use Rattle.surface.proofs.Readings.{blend_rows}
 
 -- a product, as the code computes it
@@ -59,19 +58,17 @@ kept_four a b c d p q r s (suc (suc zero)) h = kept c r
 kept_four a b c d p q r s (suc (suc (suc zero))) h = kept d s
 kept_four a b c d p q r s (suc (suc (suc (suc i)))) h = absurd (omega arith)
 
--- points within reach, one by one
-pub point_low : (rows : List (List ℤ)) → rows_within rows ≡ true → (a b : ℕ) → nat_abs (point rows a b) ≤ reach
-point_low rows within a b = leb-true (nat_abs (point rows a b)) reach (all_at low (get_or rows a []) (pos 0) refl (all_at (list_all low) rows [] refl within a) b)
-  where
-    low : ℤ → Bool
-    low v = leb (nat_abs v) reach
+-- the points of each row, where all are within reach
+pub row_low : (rows : List (List ℤ)) → within_reach (point rows) ≡ true → (a : ℕ) → a < 4 → Low reach (get_or rows a [])
+row_low rows within a high b wide =
+    leb-true (nat_abs (point rows a b)) reach (at_below 4 (λ b. leb (nat_abs (point rows a b)) reach) (at_below 4 (λ a. all_below 4 (λ b. leb (nat_abs (point rows a b)) reach)) within a high) b wide)
 
 -- the reading, as the code computes it
 pub sum_is : (x y : ℕ) (c : List (List ℤ)) → products_of (weights_at x) (λ a. products (weights_at y) (get_or c a [])) ≡ sum_around (point c) x y
 sum_is x y c = sym (blend_rows (λ a. weight a (x % 32)) (λ b. weight b (y % 32)) (point c))
 
 module _ (x y : ℕ) (rows : List (List ℤ)) (sum reading : ℤ) (sum_fits : mag sum < 2 ^ 63) (reading_fits : mag reading < 2 ^ 31) where
-  pub reading_is : rows_within rows ≡ true → sum ≡ products_of (weights_at x) (λ a. products (weights_at y) (get_or rows a [])) →
+  pub reading_is : within_reach (point rows) ≡ true → sum ≡ products_of (weights_at x) (λ a. products (weights_at y) (get_or rows a [])) →
       reading ≡ rounded (to_z w64 (of_z w64 sum)) → Some (to_z w32 (of_z w32 reading)) ≡ patch_reading rows x y
   reading_is within is rounds =
       let around : to_z w64 (of_z w64 sum) ≡ sum_around (point rows) x y = to_z-of_z w64 sum (record { sfits = sum_fits }) ∙ is ∙ sum_is x y rows in

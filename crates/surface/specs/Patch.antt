@@ -23,10 +23,6 @@ all_below n f = list_all f (range_with_len 0 n)
 abbrev pub point : List (List ℤ) → ℕ → ℕ → ℤ
 point rows a b = slice_index_or (slice_index_or rows a []) b (pos 0)
 
--- Rows of points all lie within reach.
-abbrev pub rows_within : List (List ℤ) → Bool
-rows_within = list_all (list_all (λ point. nat_le (unsigned_abs point) reach))
-
 -- Sixteen points, by row and column from 0, lie within reach.
 abbrev pub within_reach : (ℕ → ℕ → ℤ) → Bool
 within_reach c = all_below 4 (λ a. all_below 4 (λ b. nat_le (unsigned_abs (c a b)) reach))
@@ -37,4 +33,4 @@ sum_around c x y = blend (λ a. weight a (x % 32)) (λ b. weight b (y % 32)) c
 
 -- The reading of sixteen points around a place: none if one lies beyond reach.
 abbrev pub patch_reading : List (List ℤ) → ℕ → ℕ → Option ℤ
-patch_reading rows x y = if rows_within rows then Some (rounded (sum_around (point rows) x y)) else None
+patch_reading rows x y = if within_reach (point rows) then Some (rounded (sum_around (point rows) x y)) else None

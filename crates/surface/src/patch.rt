@@ -1,11 +1,10 @@
 // One place of the surface: the lines around it, its weights, and the reading of its sixteen control points.
 // Places are in 32nds of the way from one row or column to the next, with row 1 and column 1 at 32.
 ghost use Rattle.std.specs.Prelude.{◌≡◌, ℕ, ◌+◌, ◌-◌, ◌*◌, ◌%◌, ◌^◌, ◌<◌, ◌≤◌, max, true, [], pos, ◌+ℤ◌, ◌-ℤ◌, ◌*ℤ◌, nat_le, slice_index, slice_index_or, unsigned_abs};
-ghost use Rattle.std.specs.List.{list_all};
 ghost use Rattle.line.specs.Line.{clamped};
 ghost use Rattle.surface.specs.Surface.{weight, F, floored, rounded, tolerance_of};
 ghost use Rattle.surface.specs.Products.{Low, products, products_of};
-ghost use Rattle.surface.specs.Patch.{lines_around, weights_at, reach, rows_within, patch_reading};
+ghost use Rattle.surface.specs.Patch.{lines_around, weights_at, reach, all_below, point, within_reach, patch_reading};
 
 // Half of the 36 * 2^30 that the sixteen products of weights add up to.
 const HALF: i64 = 19_327_352_832;
@@ -26,7 +25,7 @@ pub fn lines_around(count: usize, x: usize) -> [usize; 4]
     ensures on_line { (a : ℕ) → a < 4 → (1 ≤ slice_index result a) × (slice_index result a ≤ max 1 count) }
 {
     let next = x / 32;
-    [next, next + 1, next + 2, next + 3].map(|next| line_before(count, next))
+    [next, next + 1, next + 2, next + 3].map(|line| line_before(count, line))
 }
 
 // A cube, which fits for whatever is at most 32.
@@ -97,7 +96,7 @@ fn within(point: i32) -> bool
 
 // Whether all four points of a row are.
 fn row_within(row: &[i32; 4]) -> bool
-    ensures { result ≡ list_all (λ point. nat_le (unsigned_abs point) reach) row.now }
+    ensures { result ≡ all_below 4 (λ b. nat_le (unsigned_abs (slice_index_or row.now b (pos 0))) reach) }
 {
     row.iter().all(|&point| within(point))
 }
@@ -124,7 +123,7 @@ fn sum_of(a: i64, b: i64, c: i64, d: i64) -> i64
 fn widened(row: &[i32; 4]) -> [i64; 4]
     ensures { result ≡ row.now }
 {
-    row.map(|point| i64::from(point))
+    row.map(i64::from)
 }
 
 // The weights of four lines.
@@ -167,7 +166,7 @@ impl LineWeights {
     // All sixteen points, each times its two weights: first within each row, then over the rows. Written out: as a closure, what is asked of
     // a row would need clauses of its own.
     fn sum_of_rows(&self, across: &LineWeights, rows: &[[i32; 4]; 4]) -> i64
-        requires { rows_within rows.now ≡ true }
+        requires { within_reach (point rows.now) ≡ true }
         ensures { result ≡ products_of self.now.values (λ a. products across.now.values (slice_index_or rows.now a [])) }
     {
         self.sum(&[
@@ -181,7 +180,7 @@ impl LineWeights {
 
 // The same with the weights of a place: those of x for the rows, those of y within each row.
 fn sum_at(rows: &[[i32; 4]; 4], x: usize, y: usize) -> i64
-    requires { rows_within rows.now ≡ true }
+    requires { within_reach (point rows.now) ≡ true }
     ensures { result ≡ products_of (weights_at x) (λ a. products (weights_at y) (slice_index_or rows.now a [])) }
 {
     LineWeights::at(x).sum_of_rows(&LineWeights::at(y), rows)
@@ -189,9 +188,9 @@ fn sum_at(rows: &[[i32; 4]; 4], x: usize, y: usize) -> i64
 
 // Whether all sixteen points are read.
 fn rows_within(rows: &[[i32; 4]; 4]) -> bool
-    ensures { result ≡ rows_within rows.now }
+    ensures { result ≡ within_reach (point rows.now) }
 {
-    rows.iter().all(|row| row_within(row))
+    rows.iter().all(row_within)
 }
 
 // The reading at a place of its sixteen points, four rows of four; none if one of them lies beyond 16,000,000 either way.

@@ -1,18 +1,19 @@
 -- The points of each row lie within reach, so that the sums of the rows stay low.
-use Rattle.surface.proofs.Sums.{kept_four, point_low}
+use Rattle.std.proofs.Common.{arith}
+use Rattle.surface.proofs.Sums.{kept_four, row_low}
 use Rattle.surface.proofs.patch.LineWeights.sum_of_rows.Goals as goal
 
 pub sum_of_row-requires : goal.sum_of_row-requires
-sum_of_row-requires c = λ b h. point_low c.args.rows.now c.requires 0 b
+sum_of_row-requires c = row_low c.args.rows.now c.requires 0 (omega arith)
 
 pub sum_of_row-requires-2 : goal.sum_of_row-requires-2
-sum_of_row-requires-2 c = λ b h. point_low c.args.rows.now c.requires 1 b
+sum_of_row-requires-2 c = row_low c.args.rows.now c.requires 1 (omega arith)
 
 pub sum_of_row-requires-3 : goal.sum_of_row-requires-3
-sum_of_row-requires-3 c = λ b h. point_low c.args.rows.now c.requires 2 b
+sum_of_row-requires-3 c = row_low c.args.rows.now c.requires 2 (omega arith)
 
 pub sum_of_row-requires-4 : goal.sum_of_row-requires-4
-sum_of_row-requires-4 c = λ b h. point_low c.args.rows.now c.requires 3 b
+sum_of_row-requires-4 c = row_low c.args.rows.now c.requires 3 (omega arith)
 
 pub sum-requires : goal.sum-requires
 sum-requires c =
