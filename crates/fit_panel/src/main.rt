@@ -15,15 +15,8 @@ use std::{env, fs, io};
 fn show_opened(rt: &HostRuntime, bytes: &[u8], file: &PanelFile) -> anyhow::Result<()> {
     show_file(rt, file)?;
     match file.kind {
-        Kind::Heights => show_panel(rt, bytes, file.size, Height(0)),
-        Kind::Points => {
-            let origin = Point {
-                across: 0,
-                along: 0,
-                up: 0,
-            };
-            show_panel(rt, bytes, file.size, origin)
-        }
+        Kind::Heights => show_panel(rt, bytes, file.size, Height::default()),
+        Kind::Points => show_panel(rt, bytes, file.size, Point::default()),
     }
 }
 

@@ -5,11 +5,11 @@ ghost use Rattle.std.proofs.Common.{rules};
 use crate::sample::Sample;
 
 // A height: one part.
-#[derive(Clone, Copy, PartialEq, Eq, Debug)]
+#[derive(Clone, Copy, PartialEq, Eq, Debug, Default)]
 pub struct Height(pub i32);
 
 // A point: three parts, across, along and up.
-#[derive(Clone, Copy, PartialEq, Eq, Debug)]
+#[derive(Clone, Copy, PartialEq, Eq, Debug, Default)]
 pub struct Point {
     pub across: i32,
     pub along: i32,

@@ -1,6 +1,7 @@
-// Sample kinds, and the places of a grid that is stored row by row. (Its specs also have what a chain of checks answers.)
+// Sample kinds, the places of a grid that is stored row by row, and the check that calls are made of.
 #![tactic(auto)]
 
+pub mod checks;
 pub mod kinds;
 pub mod sample;
 pub mod size;

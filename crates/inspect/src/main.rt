@@ -43,13 +43,8 @@ fn print_file(rt: &HostRuntime, bytes: &[u8]) -> io::Result<()> {
         return println!(rt; "  no memory to show its name");
     };
     println!(rt; "  rows {rows}, columns {columns}, parts {parts}, name \"{name}\"")?;
-    print_load(rt, "heights", bytes, &file, Height(0))?;
-    let origin = Point {
-        across: 0,
-        along: 0,
-        up: 0,
-    };
-    print_load(rt, "points", bytes, &file, origin)
+    print_load(rt, "heights", bytes, &file, Height::default())?;
+    print_load(rt, "points", bytes, &file, Point::default())
 }
 
 // The start of a file, no more than tells whether it is a panel file.

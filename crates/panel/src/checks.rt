@@ -1,19 +1,11 @@
 // What the calls check, each check under the name of its definition.
 ghost use Rattle.std.specs.Prelude.{◌≡◌, ◌<◌, map, length, ◌==◌, nat_le, unsigned_abs};
-ghost use Rattle.grid.specs.Checks.{check as checked};
 ghost use Rattle.panel.specs.Calls.{between, sized, parts_within, grid_within, part_limit};
 
 use crate::record::Panel;
 use grid::sample::Sample;
 use grid::size::Place;
 use panel_fault::PanelFault;
-
-// Passed, or refused by the fault.
-pub(crate) fn check(holds: bool, fault: PanelFault) -> Result<(), PanelFault>
-    ensures { result ≡ checked holds fault }
-{
-    if holds { Ok(()) } else { Err(fault) }
-}
 
 // Whether a number lies between two limits, both included. What passed is then cast by `as`: a second `try_from` would add a branch that never
 // fails.

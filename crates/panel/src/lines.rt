@@ -8,11 +8,12 @@ ghost use Rattle.panel.specs.Lane.{row_lane, column_lane, first_lane, second_lan
 ghost use Rattle.panel.specs.Runs.{Reached, History, recorded, first_refusals, second_refusals};
 ghost use Rattle.panel.specs.Runs.Event.{first_ran, second_ran};
 
-use crate::checks::{check, is_between};
+use crate::checks::is_between;
 use crate::lane::Lane;
 use crate::marks::{all_current, let_go, run_at};
 use crate::record::Panel;
 use crate::source::{Source, fit_line};
+use grid::checks::check;
 use grid::sample::Sample;
 use line::solver::LineSolver;
 use panel_fault::PanelFault;

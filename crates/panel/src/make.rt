@@ -3,9 +3,10 @@ ghost use Rattle.std.specs.Prelude.{◌≡◌, map};
 ghost use Rattle.panel.specs.Calls.{make_answer, make_result};
 ghost use Rattle.panel.specs.Runs.{Begins, HasOneSurface};
 
-use crate::checks::{check, grid_within, has_length, is_between};
+use crate::checks::{grid_within, has_length, is_between};
 use crate::marks::no_marks;
 use crate::record::{Order, Panel};
+use grid::checks::check;
 use grid::sample::Sample;
 use grid::size::GridSize;
 use panel_fault::PanelFault;

@@ -7,9 +7,10 @@ ghost use Rattle.panel.specs.Calls.{between, probe_limit, probed_panel, probe_an
 ghost use Rattle.panel.specs.Runs.{Reached, History, recorded};
 ghost use Rattle.panel.specs.Runs.Event.{probed};
 
-use crate::checks::{check, is_between, parts_within};
+use crate::checks::{is_between, parts_within};
 use crate::marks::{let_go, let_go_at};
 use crate::record::{Panel, index_of};
+use grid::checks::check;
 use grid::sample::Sample;
 use grid::size::Place;
 use panel_fault::PanelFault;

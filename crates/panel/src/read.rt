@@ -9,10 +9,11 @@ ghost use Rattle.panel.specs.Calls.{sized, mark, grade_of, first_lines};
 ghost use Rattle.panel.specs.Reading.{InArea, in_area, needed as needed_line, needed_current, greatest, read_answer, shown};
 ghost use Rattle.panel.specs.Runs.{Reached, History, ReadsFaithfully};
 
-use crate::checks::{check, is_between};
+use crate::checks::is_between;
 use crate::marks::{are_current, greatest_grade};
 use crate::record::Panel;
 use crate::view::View;
+use grid::checks::check;
 use grid::sample::Sample;
 use panel_fault::PanelFault;
 use surface::patch::lines_around;

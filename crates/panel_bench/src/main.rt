@@ -26,15 +26,8 @@ fn run(rt: &HostRuntime) -> anyhow::Result<i64> {
     let work = work_of(work.as_str())?;
     let times = times.as_str().parse::<u32>()?;
     match kind.as_str() {
-        "heights" => Ok(done(&mut [Height(0); 4096], work, times)),
-        "points" => {
-            let origin = Point {
-                across: 0,
-                along: 0,
-                up: 0,
-            };
-            Ok(done(&mut [origin; 4096], work, times))
-        }
+        "heights" => Ok(done(&mut [Height::default(); 4096], work, times)),
+        "points" => Ok(done(&mut [Point::default(); 4096], work, times)),
         _ => Err(anyhow!("the kind is heights or points")),
     }
 }

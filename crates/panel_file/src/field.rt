@@ -1,10 +1,11 @@
 // The fields of a panel file, each read only where the file has all of its bytes.
 ghost use Rattle.std.specs.Prelude.{◌≡◌, ◌+◌, ◌^◌, ◌<◌, take, drop, Ok};
 ghost use Rattle.std.specs.Result.{result_and};
-ghost use Rattle.grid.specs.Checks.{check};
+ghost use Rattle.grid.specs.Checks.{check as checked};
 ghost use Rattle.panel_file.specs.Field.{byte_at, count_at, part_at, present, refused};
 
 use crate::refusal::{FileFault, FileRefusal, Section};
+use grid::checks::check;
 
 // Where a field stands: its section, and the offset of its first byte.
 #[derive(Clone, Copy)]
@@ -35,13 +36,9 @@ impl Field {
 
     // The field is refused unless `holds`.
     pub(crate) fn require(self, holds: bool, fault: FileFault) -> Result<(), FileRefusal>
-        ensures { result ≡ check holds (refused fault self.section self.at) }
+        ensures { result ≡ checked holds (refused fault self.section self.at) }
     {
-        if holds {
-            Ok(())
-        } else {
-            Err(self.refused(fault))
-        }
+        check(holds, self.refused(fault))
     }
 
     // The N bytes of the field.

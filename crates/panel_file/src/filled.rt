@@ -8,6 +8,7 @@ use crate::field::part_of;
 use crate::opened::open;
 use crate::refusal::{FileFault, FillFault, Section};
 use crate::section::{PARTS_AT, SAMPLES_AT};
+use grid::checks::check;
 use grid::sample::Sample;
 
 // The checks of the file, then of the grid: how many parts its kind has, and how many samples it has room for. The file then has all
@@ -21,11 +22,7 @@ fn admit(file: &[u8], parts: usize, room: usize) -> Result<(), FillFault>
         usize::from(opened.kind.parts()) == parts,
         FileFault::WrongParts,
     )?;
-    if room == opened.size.count() {
-        Ok(())
-    } else {
-        Err(FillFault::GridLength)
-    }
+    check(room == opened.size.count(), FillFault::GridLength)
 }
 
 // The sample of these bytes: every part of another sample is replaced.
