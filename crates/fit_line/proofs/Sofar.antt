@@ -3,9 +3,9 @@ use Rattle.std.proofs.Common.{◌≡◌, ℕ, ◌+◌, ◌<◌, List, [], ◌∷
 use Rattle.std.specs.Str.Parse.{signed_digits_value}
 use Rattle.std.specs.Char.{is_whitespace, is_not_whitespace}
 use Rattle.std.specs.Str.{NoCharPasses, EmptyOrStartsWithPassing}
-use Rattle.std.specs.List.{AllByRecursion}
-use Rattle.std.proofs.ByRecursion.{All-append}
+use Rattle.std.specs.List.{All}
 use Rattle.std.proofs.lemmas.List.{map-append, length-map}
+use Rattle.std.proofs.lemmas.List.Elements.{All-push}
 use Rattle.fit_line.specs.Words.{First, Begins, Writes, Blames}
 
 -- what `split_whitespace` says of an item
@@ -20,7 +20,7 @@ more_begins text (earlier ∷ seen) old first = (old.0, old.1, more_begins old.0
 -- the numbers are those of the words before rest
 pub record Sofar (text rest : List ℕ) (numbers : List ℤ) : Type 0 where
   pub seen : List (List ℕ)
-  pub write : AllByRecursion Writes seen
+  pub write : All Writes seen
   pub values : numbers ≡ map (signed_digits_value 10) seen
   pub begins : Begins text seen rest
 
@@ -28,7 +28,7 @@ module _ {text rest : List ℕ} {numbers : List ℤ} (old : Sofar text rest numb
   pub one_more : {word next : List ℕ} {more : List ℤ} → First rest word next → Writes word → more ≡ numbers ++ (signed_digits_value 10 word ∷ []) → Sofar text next more
   one_more {word} {next} {more} first writes e = record {
     seen = old.seen ++ (word ∷ []);
-    write = All-append Writes old.seen (word ∷ []) old.write (writes, tt);
+    write = All-push Writes old.seen word old.write writes;
     values = rw (e, old.values) (sym (map-append (signed_digits_value 10) old.seen (word ∷ [])));
     begins = more_begins text old.seen old.begins first;
   }

@@ -4,7 +4,7 @@ use Rattle.std.specs.Int.{w64}
 use Rattle.std.specs.Str.Parse.{IsNumeral, without_leading_sign, signed_digits_value}
 use Rattle.std.specs.Char.{is_whitespace, is_not_whitespace}
 use Rattle.std.specs.Str.{NoCharPasses, EmptyOrStartsWithPassing}
-use Rattle.std.specs.List.{AllByRecursion}
+use Rattle.std.specs.List.{All}
 use Rattle.fit_line.specs.declared.words.TextFault.{TextFault}
 use Rattle.fit_line.specs.declared.words.TextFault.TheVariants.{Word, Memory}
 
@@ -32,7 +32,7 @@ pub record LineOf (text : List ℕ) (numbers : List ℤ) : Type 0 where
   pub rest : List ℕ
   pub begins : Begins text words rest
   pub ends : NoCharPasses is_not_whitespace rest
-  pub write : AllByRecursion Writes words
+  pub write : All Writes words
   pub values : numbers ≡ map (signed_digits_value 10) words
 
 -- The word at a place, counted from 1, is the first that writes no number.
@@ -41,7 +41,7 @@ pub record Blames (text : List ℕ) (place : ℕ) : Type 0 where
   pub word : List ℕ
   pub rest : List ℕ
   pub begins : Begins text (earlier ++ (word ∷ [])) rest
-  pub write : AllByRecursion Writes earlier
+  pub write : All Writes earlier
   pub counted : place ≡ length earlier + 1
   pub wrong : Writes word → ⊥
 

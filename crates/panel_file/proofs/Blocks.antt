@@ -1,7 +1,8 @@
 -- Lists that are made of blocks of one length.
 use Rattle.std.proofs.Common.{◌≡◌, ℕ, zero, suc, ◌+◌, ◌*◌, ◌<◌, ◌≤◌, List, [], ◌∷◌, ◌++◌, map, length, get_or, take, drop, sym, refl, ap, ◌∙◌, ap₂, arith, take-add}
-use Rattle.std.specs.List.{range_with_len, flat_map, AllByRecursion}
+use Rattle.std.specs.List.{range_with_len, flat_map, All}
 use Rattle.std.proofs.lemmas.List.{append_assoc, drop-drop, drop_at, take_at, length-append}
+use Rattle.std.proofs.lemmas.List.Elements.{All-head, All-tail}
 
 module _ {X A : Type 0} (g : X → List A) (w : ℕ) where
   -- Blocks cut out of a list one after the other put that part of it together again.
@@ -17,22 +18,26 @@ module _ {X A : Type 0} (g : X → List A) (w : ℕ) where
       ∙ sym (take-add w (n * w) (drop (at + a * w) xs))
       ∙ ap (λ m. take m (drop (at + a * w) xs)) (sym all)
 
+  -- The block of x has the one length.
+  abbrev Whole : X → Type 0
+  Whole x = length (g x) ≡ w
+
   -- The i-th block of a list that begins with blocks.
-  pub block_at : (xs : List X) (rest : List A) (i : ℕ) (d : X) → AllByRecursion (λ x. length (g x) ≡ w) xs → i < length xs → take w (drop (i * w) (flat_map g xs ++ rest)) ≡ g (get_or xs i d)
+  pub block_at : (xs : List X) (rest : List A) (i : ℕ) (d : X) → All Whole xs → i < length xs → take w (drop (i * w) (flat_map g xs ++ rest)) ≡ g (get_or xs i d)
   block_at [] rest i d h low = absurd (omega arith)
   block_at (x ∷ xs) rest zero d h low =
       let none : 0 * w ≡ 0 = omega arith in
-      rw (none, append_assoc (g x) (flat_map g xs) rest) (take_at (g x) (flat_map g xs ++ rest) w h.0)
+      rw (none, append_assoc (g x) (flat_map g xs) rest) (take_at (g x) (flat_map g xs ++ rest) w (All-head Whole x xs h))
   block_at (x ∷ xs) rest (suc i) d h low =
       let on : suc i * w ≡ w + i * w = omega arith in
       ap (λ m. take w (drop m ((g x ++ flat_map g xs) ++ rest))) on
       ∙ ap (take w) (sym (drop-drop (i * w) w ((g x ++ flat_map g xs) ++ rest)))
-      ∙ ap (λ l. take w (drop (i * w) l)) (ap (drop w) (append_assoc (g x) (flat_map g xs) rest) ∙ drop_at (g x) (flat_map g xs ++ rest) w h.0)
-      ∙ block_at xs rest i d h.1 (omega arith)
+      ∙ ap (λ l. take w (drop (i * w) l)) (ap (drop w) (append_assoc (g x) (flat_map g xs) rest) ∙ drop_at (g x) (flat_map g xs ++ rest) w (All-head Whole x xs h))
+      ∙ block_at xs rest i d (All-tail Whole x xs h) (omega arith)
 
-  pub length_joined : (xs : List X) → AllByRecursion (λ x. length (g x) ≡ w) xs → length (flat_map g xs) ≡ length xs * w
+  pub length_joined : (xs : List X) → All Whole xs → length (flat_map g xs) ≡ length xs * w
   length_joined [] h = let none : 0 * w ≡ 0 = omega arith in sym none
-  length_joined (x ∷ xs) h = omega (arith, length-append (g x) (flat_map g xs), length_joined xs h.1, h.0)
+  length_joined (x ∷ xs) h = omega (arith, length-append (g x) (flat_map g xs), length_joined xs (All-tail Whole x xs h), All-head Whole x xs h)
 
 -- Blocks of blocks.
 module _ {X Y A : Type 0} (g : Y → List A) (f : X → List Y) where

@@ -1,9 +1,9 @@
 -- An accepted file is the encoding of what is read from it.
-use Rattle.std.proofs.Common.{◌≡◌, ℕ, ◌+◌, ◌*◌, ◌<◌, ◌≤◌, List, [], ◌∷◌, ◌++◌, length, get_or, take, drop, nat_abs, sym, ap, ◌∙◌, subst, ap₂, zero-add, arith}
-use Rattle.std.specs.List.{range_with_len, flat_map, AllByRecursion}
+use Rattle.std.proofs.Common.{◌≡◌, ℕ, ◌+◌, ◌*◌, ◌<◌, ◌≤◌, List, [], ◌∷◌, ◌++◌, map, length, get_or, take, drop, nat_abs, sym, ap, ◌∙◌, subst, ap₂, arith}
+use Rattle.std.specs.List.{range_with_len, flat_map, All}
 use Rattle.std.proofs.lemmas.Nat.{mul-add-lt}
-use Rattle.std.proofs.lemmas.List.FromFn.{length-range_with_len, get_or-range_with_len, length-map-range_with_len}
-use Rattle.std.proofs.ByRecursion.{All-from_get_or, All-map}
+use Rattle.std.proofs.lemmas.List.FromFn.{length-map-range_with_len, get_or-map-range_with_len}
+use Rattle.std.proofs.lemmas.List.Elements.{All-from_get_or}
 use Rattle.std.proofs.lemmas.List.{drop_more, drop-drop, take-append-drop, length-drop, get_or-drop}
 use Rattle.panel_file.specs.Field.{byte_at, count_at, part_at}
 use Rattle.panel_file.specs.Layout.{name_at}
@@ -24,10 +24,11 @@ decode file =
       name = name_at file (name_count_at file);
     }
 
--- What holds of each number below n holds of all that are counted.
-everywhere : {P : ℕ → Type 0} {n : ℕ} → ((i : ℕ) → i < n → P i) → AllByRecursion P (range_with_len 0 n)
-everywhere {P} {n} h =
-    All-from_get_or P (range_with_len 0 n) 0 (λ i low. let same : get_or (range_with_len 0 n) i 0 ≡ i = get_or-range_with_len 0 n i 0 (omega (arith, length-range_with_len 0 n)) ∙ zero-add i in subst P (sym same) (h i (omega (arith, length-range_with_len 0 n))))
+-- What holds of each f i with i below n holds of all that are listed.
+everywhere : {X : Type 0} (Q : X → Type 0) (f : ℕ → X) (n : ℕ) → ((i : ℕ) → i < n → Q (f i)) → All Q (map f (range_with_len 0 n))
+everywhere Q f n h k d low =
+    let inside : k < n = omega (arith, length-map-range_with_len f 0 n) in
+    subst Q (sym (get_or-map-range_with_len f 0 n k k d inside (omega arith))) (h k inside)
 
 module _ (file : List ℕ) (bytes : (at : ℕ) → byte_at file at < 256) (a : Accepted file) where
   abbrev P : ℕ
@@ -118,8 +119,8 @@ module _ (file : List ℕ) (bytes : (at : ℕ) → byte_at file at < 256) (a : A
         columns_fit = a.columns_fit;
         parts_fit = a.parts_fit;
         samples_fill = length-map-range_with_len (λ i. parts_at file P (7 + i * (P * 4))) 0 R;
-        samples_have_parts = All-map (λ sample. length sample ≡ P) (λ i. parts_at file P (7 + i * (P * 4))) (range_with_len 0 R) (everywhere (λ i _. length-map-range_with_len (λ k. part_at file (7 + i * (P * 4) + k * 4)) 0 P));
-        samples_within = All-map (AllByRecursion (λ part. nat_abs part ≤ 100000)) (λ i. parts_at file P (7 + i * (P * 4))) (range_with_len 0 R) (everywhere (λ i low. All-map (λ part. nat_abs part ≤ 100000) (λ k. part_at file (7 + i * (P * 4) + k * 4)) (range_with_len 0 P) (everywhere (λ k part. (part_there i k low part).1))));
+        samples_have_parts = everywhere (λ sample. length sample ≡ P) (λ i. parts_at file P (7 + i * (P * 4))) R (λ i low. length-map-range_with_len (λ k. part_at file (7 + i * (P * 4) + k * 4)) 0 P);
+        samples_within = everywhere (All (λ part. nat_abs part ≤ 100000)) (λ i. parts_at file P (7 + i * (P * 4))) R (λ i low. everywhere (λ part. nat_abs part ≤ 100000) (λ k. part_at file (7 + i * (P * 4) + k * 4)) P (λ k part. (part_there i k low part).1));
         name_short = omega (arith, name_length, a.name_short);
         name_printable = All-from_get_or (λ byte. (32 ≤ byte) × (byte ≤ 126)) name 0 (λ k low. printable k (omega (arith, name_length)));
       }

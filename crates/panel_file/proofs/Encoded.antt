@@ -1,9 +1,9 @@
 -- The encoding of contents within the limits is accepted, and just these contents are read from it.
 use Rattle.std.proofs.Common.{◌≡◌, ℕ, ◌+◌, ◌*◌, ◌<◌, ◌≤◌, List, [], ◌∷◌, ◌++◌, length, get_or, take, drop, ℤ, pos, nat_abs, sym, refl, ap, ◌∙◌, ap₂, arith}
-use Rattle.std.specs.List.{flat_map, AllByRecursion}
+use Rattle.std.specs.List.{flat_map, All}
 use Rattle.std.proofs.lemmas.Nat.{mul-add-lt}
 use Rattle.std.proofs.lemmas.List.FromFn.{length-map-range_with_len, get_or-map-range_with_len}
-use Rattle.std.proofs.ByRecursion.{All-get_or, All-append}
+use Rattle.std.proofs.lemmas.List.Elements.{All-nil, All-head, All-tail, All-append}
 use Rattle.std.proofs.lemmas.List.{append-nil, drop-drop, drop_at, length-append, get_or-drop, get_or-take, ext_get_or}
 use Rattle.panel_file.specs.Field.{byte_at, count_at, part_at, signed}
 use Rattle.panel_file.specs.Format.{Contents, Valid, count_bytes, part_bytes, encode}
@@ -13,9 +13,9 @@ use Rattle.panel_file.proofs.Blocks.{block_at, length_joined, joined_joined}
 use Rattle.panel_file.proofs.Decoded.{decode}
 use Rattle.panel_file.proofs.Numbers.{count_back, word, part_back}
 
-all_joined : {X : Type 0} (P : X → Type 0) (xss : List (List X)) → AllByRecursion (AllByRecursion P) xss → AllByRecursion P (flat_map (λ xs. xs) xss)
-all_joined P [] h = tt
-all_joined P (xs ∷ xss) h = All-append P xs (flat_map (λ xs. xs) xss) h.0 (all_joined P xss h.1)
+all_joined : {X : Type 0} (P : X → Type 0) (xss : List (List X)) → All (All P) xss → All P (flat_map (λ xs. xs) xss)
+all_joined P [] h = All-nil P
+all_joined P (xs ∷ xss) h = All-append P xs (flat_map (λ xs. xs) xss) (All-head (All P) xs xss h) (all_joined P xss (All-tail (All P) xs xss h))
 
 -- an element of a block that was cut out of a list
 block_element : {A : Type 0} (xs ys : List A) (from w k : ℕ) (d : A) → take w (drop from xs) ≡ ys → k < w → get_or xs (from + k) d ≡ get_or ys k d
@@ -41,7 +41,7 @@ module _ (c : Contents) (v : Valid c) where
   flat_length : length flat ≡ R * P
   flat_length = length_joined (λ sample. sample) P c.samples v.samples_have_parts ∙ ap (λ n. n * P) v.samples_fill
 
-  flat_within : AllByRecursion (λ part. nat_abs part ≤ 100000) flat
+  flat_within : All (λ part. nat_abs part ≤ 100000) flat
   flat_within = all_joined (λ part. nat_abs part ≤ 100000) c.samples v.samples_within
 
   flat_at : (i k : ℕ) → i < R → k < P → get_or flat (i * P + k) (pos 0) ≡ get_or (get_or c.samples i []) k (pos 0)
@@ -53,9 +53,8 @@ module _ (c : Contents) (v : Valid c) where
   after_7 : drop 7 file ≡ flat_map part_bytes flat ++ N
   after_7 = ap (λ l. l ++ N) (sym (joined_joined part_bytes (λ sample. sample) c.samples))
 
-  four_bytes : (xs : List ℤ) → AllByRecursion (λ part. length (part_bytes part) ≡ 4) xs
-  four_bytes [] = tt
-  four_bytes (x ∷ xs) = (refl, four_bytes xs)
+  four_bytes : (xs : List ℤ) → All (λ part. length (part_bytes part) ≡ 4) xs
+  four_bytes xs k d low = refl
 
   bytes_length : length (flat_map part_bytes flat) ≡ R * P * 4
   bytes_length = length_joined part_bytes 4 flat (four_bytes flat) ∙ ap (λ n. n * 4) flat_length
@@ -72,7 +71,7 @@ module _ (c : Contents) (v : Valid c) where
   same_word p q r s = omega arith
 
   flat_small : (k : ℕ) → k < R * P → nat_abs (get_or flat k (pos 0)) ≤ 100000
-  flat_small k low = All-get_or (λ part. nat_abs part ≤ 100000) flat k (pos 0) (omega (arith, flat_length)) flat_within
+  flat_small k low = flat_within k (pos 0) (omega (arith, flat_length))
 
   part_read : (k : ℕ) → k < R * P → part_at file (7 + k * 4) ≡ get_or flat k (pos 0)
   part_read k low =
@@ -117,11 +116,11 @@ module _ (c : Contents) (v : Valid c) where
       }
     where
       printable : (k : ℕ) → k < length c.name → (32 ≤ byte_at file (E + 2 + k)) × (byte_at file (E + 2 + k) ≤ 126)
-      printable k low = rw (← get_or-drop (E + 2) file k 0, name_read) (All-get_or (λ byte. (32 ≤ byte) × (byte ≤ 126)) c.name k 0 low v.name_printable)
+      printable k low = rw (← get_or-drop (E + 2) file k 0, name_read) (v.name_printable k 0 low)
 
   sample_read : (i : ℕ) → i < R → parts_at file P (7 + i * (P * 4)) ≡ get_or c.samples i []
   sample_read i row =
-      let long : length (get_or c.samples i []) ≡ P = All-get_or (λ sample. length sample ≡ P) c.samples i [] (omega (arith, v.samples_fill)) v.samples_have_parts in
+      let long : length (get_or c.samples i []) ≡ P = v.samples_have_parts i [] (omega (arith, v.samples_fill)) in
       let count : length (parts_at file P (7 + i * (P * 4))) ≡ P = length-map-range_with_len (λ k. part_at file (7 + i * (P * 4) + k * 4)) 0 P in
       ext_get_or (pos 0) _ _ (count ∙ sym long) (λ k low. part k (omega arith))
     where

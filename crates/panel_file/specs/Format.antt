@@ -1,6 +1,6 @@
 -- The panel file: what it holds, within which limits, and its bytes.
 use Rattle.std.specs.Prelude.{◌≡◌, ℕ, ◌-◌, ◌*◌, ◌/◌, ◌%◌, ◌≤◌, ◌⊎◌, List, [], ◌∷◌, ◌++◌, length, ℤ, pos, negsuc, unsigned_abs}
-use Rattle.std.specs.List.{flat_map, AllByRecursion}
+use Rattle.std.specs.List.{flat_map, All}
 
 -- The samples row by row, each the list of its parts, and a name.
 pub record Contents : Type 0 where
@@ -16,10 +16,10 @@ pub record Valid (c : Contents) : Type 0 where
   pub columns_fit : (2 ≤ c.columns) × (c.columns ≤ 64)
   pub parts_fit : (c.parts ≡ 1) ⊎ (c.parts ≡ 3)
   pub samples_fill : length c.samples ≡ c.rows * c.columns
-  pub samples_have_parts : AllByRecursion (λ sample. length sample ≡ c.parts) c.samples
-  pub samples_within : AllByRecursion (AllByRecursion (λ part. unsigned_abs part ≤ 100000)) c.samples
+  pub samples_have_parts : All (λ sample. length sample ≡ c.parts) c.samples
+  pub samples_within : All (All (λ part. unsigned_abs part ≤ 100000)) c.samples
   pub name_short : length c.name ≤ 40
-  pub name_printable : AllByRecursion (λ byte. (32 ≤ byte) × (byte ≤ 126)) c.name
+  pub name_printable : All (λ byte. (32 ≤ byte) × (byte ≤ 126)) c.name
 
 -- A count: two bytes, the low one first.
 abbrev pub count_bytes : ℕ → List ℕ
