@@ -47,7 +47,8 @@ fn print_file(rt: &HostRuntime, bytes: &[u8]) -> io::Result<()> {
     print_load(rt, "points", bytes, &file, Point::default())
 }
 
-// The start of a file, no more than tells whether it is a panel file.
+// The start of a file, no more than tells whether it is a panel file. Each program opens its own: of what a file holds a library has nothing to
+// promise.
 fn start_of_file(rt: &HostRuntime, path: &str) -> io::Result<Vec<u8>> {
     start_of(rt.alloc(), fs::open(rt, path)?, enough())
 }
