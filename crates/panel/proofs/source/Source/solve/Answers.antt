@@ -1,14 +1,14 @@
 use Rattle.std.proofs.Common.{◌≡◌, ℕ, ◌+◌, ◌-◌, ◌<◌, [], ◌++◌, map, length, get_or, drop, pos, sym, refl, ap, ◌∙◌, arith, Ok}
-use Rattle.std.proofs.lemmas.List.{get_or-drop, get_or_append_left, length-take}
+use Rattle.std.proofs.lemmas.List.{get_or-drop, length-take}
 use Rattle.std.proofs.lemmas.List.FromFn.{length-map-range_with_len}
 use Rattle.grid.proofs.Chains.{exit}
 use Rattle.line.specs.Solve.{solve_answer}
 use Rattle.panel_fault.specs.Refusal.{as_answer}
-use Rattle.panel.specs.Calls.{solver_took, solver_takes}
+use Rattle.panel.specs.Calls.{solver_took}
 use Rattle.panel.specs.Lane.{laned}
 use Rattle.panel.proofs.Passed.{took}
 use Rattle.panel.proofs.Lanes.{takes_on, takes_out}
-use Rattle.panel.proofs.Fitted.{long_line, fills, stays_narrow, narrow_take, narrow_append, narrow_drop, narrow_set}
+use Rattle.panel.proofs.Fitted.{long_line, fills, stays_narrow}
 use Rattle.panel.proofs.source.Source.solve.Goals as goal
 
 pub returns-then-self-gt-LONGEST-clause-answer : goal.returns-then-self-gt-LONGEST-clause-answer
@@ -17,14 +17,6 @@ returns-then-self-gt-LONGEST-clause-answer g c =
     let n : length (lines 1) ≡ c.args.self.now.lane.count = length-map-range_with_len _ 0 c.args.self.now.lane.count in
     let e = long_line (lines 1) (omega arith) in
     sym (takes_out c.args.number 1 lines g.K.Sample.PARTS (omega (arith, g.met.K.Sample.counted.0)) (rw e refl))
-
-pub loop-q-init : goal.loop-q-init
-loop-q-init g c =
-    let m : g.K.Sample.PARTS - 0 ≡ g.K.Sample.PARTS = omega arith in record {
-      answer = ap (λ n. solver_takes c.args.number 1 n (laned c.args.self.now.scale (map g.K.Sample.parts c.args.self.now.grid.now) c.args.self.now.lane)) m;
-      filled = λ q e h l. absurd (omega arith);
-      narrow = narrow_take c.PARTS.result _ c.requires;
-    }
 
 pub loop-q-preserved : goal.loop-q-preserved
 loop-q-preserved g c =
@@ -59,21 +51,3 @@ returns-in_err-solve_part-clause-answer g c =
     ap as_answer (exit _ c.from_residual.ensures.1)
     ∙ sym (takes_out c.args.number (q + 1) lines (g.K.Sample.PARTS - q) (omega arith) (refused ∙ ap (λ m. solver_took c.args.number (q + 1) (solve_answer (lines (q + 1)) m)) (sym all)))
     ∙ c.loop-q.invariant.answer
-
-pub returns-clause-filled : goal.returns-clause-filled
-returns-clause-filled g c =
-    let rows : length c.loop-q.line-items ≡ g.K.Sample.PARTS = omega (arith, c.loop-q.auto.line-items, length-take c.PARTS.result c.args.parts.now, c.PARTS.ensures, g.met.K.Sample.counted.1) in (
-      omega arith,
-      λ q e h l.
-          ap (λ v. get_or v e (pos 0)) (get_or_append_left c.loop-q.line-items _ [] q (omega arith)) ∙ c.loop-q.invariant.filled q e (omega arith) l,
-    )
-
-pub returns-clause-narrow : goal.returns-clause-narrow
-returns-clause-narrow g c = narrow_append c.loop-q.line-items _ c.loop-q.invariant.narrow (narrow_drop c.PARTS.result _ c.requires)
-
-pub returns-in_err-solve_part-clause-narrow : goal.returns-in_err-solve_part-clause-narrow
-returns-in_err-solve_part-clause-narrow g c =
-    let rows = c.loop-q.line-items in
-    let same : c.solve_part.new.out ≡ get_or rows c.loop-q.q [] = rw (c.in_err-solve_part.was) at c.solve_part.ensures.after in
-    narrow_append _ _ (narrow_set rows c.loop-q.q c.solve_part.new.out (omega arith) (λ e. rw same (c.loop-q.invariant.narrow c.loop-q.q e)) c.loop-q.invariant.narrow)
-    (narrow_drop c.PARTS.result _ c.requires)
