@@ -27,7 +27,7 @@ fn bytes_of_file(rt: &HostRuntime, path: &str) -> io::Result<Vec<u8>> {
     bytes_of(rt, fs::open(rt, path)?)
 }
 
-// Each file in turn, or standard input.
+// Each file in turn, or standard input. Each program has this for itself: what it prints of a file a library has nothing to promise of.
 fn show_given(rt: &HostRuntime) -> anyhow::Result<()> {
     let mut paths = env::args(rt)?.skip(1).peekable();
     if paths.peek().is_none() {

@@ -45,6 +45,7 @@ fn start_of_file(rt: &HostRuntime, path: &str) -> io::Result<Vec<u8>> {
     start_of(rt.alloc(), fs::open(rt, path)?, enough())
 }
 
+// Each file in turn, or standard input. Each program has this for itself: what it prints of a file a library has nothing to promise of.
 fn main(rt: HostRuntime) -> anyhow::Result<()> {
     let mut paths = env::args(&rt)?.skip(1).peekable();
     if paths.peek().is_none() {

@@ -61,6 +61,7 @@ fn inspect(rt: &HostRuntime, name: &str, bytes: io::Result<Vec<u8>>) -> io::Resu
     }
 }
 
+// Each file in turn, or standard input. Each program has this for itself: what it prints of a file a library has nothing to promise of.
 fn main(rt: HostRuntime) -> io::Result<()> {
     let mut paths = env::args(&rt)?.skip(1).peekable();
     if paths.peek().is_none() {

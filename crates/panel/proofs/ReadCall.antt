@@ -1,7 +1,9 @@
 -- Read, check by check and part by part.
-use Rattle.std.proofs.Common.{◌≡◌, ℕ, ◌+◌, ◌-◌, ◌*◌, ◌<◌, Bool, true, false, cond, List, map, length, ℤ, nat_abs, Some, None, Ok, Err, Result, sym, refl, ap, ◌∙◌, arith, rules}
+use Rattle.std.proofs.Common.{◌≡◌, ℕ, ◌+◌, ◌-◌, ◌*◌, ◌<◌, ◌≤◌, get_or, pos, subst, Bool, true, false, cond, List, map, length, ℤ, nat_abs, Some, None, Ok, Err, Result, sym, refl, ap, ◌∙◌, arith, rules, w32, SFits, to_z, of_z}
 use Rattle.std.specs.List.{range_with_len}
 use Rattle.std.proofs.lemmas.Bool.{eqb-true, and_parts}
+use Rattle.std.proofs.lemmas.List.FromFn.{fill_by_all}
+use Rattle.std.proofs.lemmas.Int.{to_z-of_z}
 use Rattle.std.specs.Result.{result_and}
 use Rattle.grid.specs.Checks.{check}
 use Rattle.grid.specs.Grid.{Grid}
@@ -13,7 +15,10 @@ use Rattle.panel_fault.specs.declared.PanelFault.{PanelFault}
 use Rattle.panel_fault.specs.declared.PanelFault.TheVariants.{GridLength, OutsideArea, SecondStale, ControlBeyond}
 use Rattle.panel.specs.Calls.{Answer, between, sized}
 use Rattle.panel.specs.Reading.{InArea, in_area, needed_current, needed_within, around, reading, tolerance, read_answer}
+use Rattle.grid.specs.Sample.{with_part}
 use Rattle.panel.proofs.Passed.{between_is}
+use Rattle.panel.proofs.Lanes.{wrote, with_part_is}
+use Rattle.panel.proofs.Stored.{shifted}
 
 -- One part of a reading, read or out of reach.
 
@@ -60,6 +65,37 @@ module _ (parts : ℕ) (p : Panel) (g : Grid) (u v : ℕ) where
 
   pub stated_refused : (e : PanelFault) → Err e ≡ sampled → Err e ≡ stated
   stated_refused e is = sym (stop (check (needed_within parts p g u v) ControlBeyond) _ e (refused_by (check (needed_within parts p g u v) ControlBeyond) _ e is))
+
+-- The first n parts of a sample are read.
+pub record ReadTo (p : Panel) (g : Grid) (x y n : ℕ) (sample : List ℤ) : Type 0 where
+  pub within : needed_within n p g x y ≡ true
+  pub read : (j : ℕ) → j < n → get_or sample j (pos 0) ≡ reading p g x y (j + 1)
+
+module _ (p : Panel) (g : Grid) (x y : ℕ) (sample : List ℤ) where
+  pub read_none : ReadTo p g x y 0 sample
+  read_none = record { within = within_none p g x y 0; read = λ j low. absurd (omega arith) }
+
+  more : (k : ℕ) (next : List ℤ) (value : ℤ) → k < length sample → ReadTo p g x y k sample → within_reach (around p g (k + 1) x y) ≡ true → value ≡ reading p g x y (k + 1) →
+      next ≡ with_part sample (k + 1) value → ReadTo p g x y (k + 1) next
+  more k next value low so_far here is next_is = record {
+    within = within_more p g x y k so_far.within here;
+    read = λ j below. ap (λ v. get_or v j (pos 0)) (next_is ∙ with_part_is sample k value) ∙ wrote (λ j. reading p g x y (j + 1)) sample k value is low so_far.read j below;
+  }
+
+  -- one part more, counted from 1, as the code read it
+  pub read_more : (part : ℕ) (next : List ℤ) (value : ℤ) → 1 ≤ part → part ≤ length sample → ReadTo p g x y (part - 1) sample →
+      Some value ≡ cond (within_reach (around p g part x y)) (Some (reading p g x y part)) None → SFits w32 value → next ≡ with_part sample part (to_z w32 (of_z w32 value)) → ReadTo p g x y part next
+  read_more part next value counted low so_far answer fits next_is =
+      let k = part - 1 in
+      let back : part ≡ k + 1 = omega (arith, counted) in
+      let read = some_read (within_reach (around p g (k + 1) x y)) value (reading p g x y (k + 1)) (rw back at answer) in
+      subst (λ n. ReadTo p g x y n next) (sym back)
+      (more k next _ (omega (arith, counted, low)) so_far read.0 (to_z-of_z w32 value fits ∙ read.1) (next_is ∙ ap (λ n. with_part sample n (to_z w32 (of_z w32 value))) back))
+
+  pub read_all : (parts : ℕ) → length sample ≡ parts → ReadTo p g x y parts sample → Ok sample ≡ sampled parts p g x y
+  read_all parts long all =
+      sampled_all parts p g x y sample all.within
+      (fill_by_all (λ j. reading p g x y (j + 1)) sample parts (pos 0) long all.read ∙ shifted (λ j. reading p g x y (j + 1)) (reading p g x y) parts (λ e low. refl))
 
 -- The checks before that.
 module _ (p : Panel) (g : Grid) (x y : ℤ) where

@@ -76,9 +76,9 @@ impl<K: Sample> View<'_, K> {
         ensures { sample_shown K.Sample.parts result ≡ result_and (checked (needed_within K.Sample.PARTS self.now.panel.now (map K.Sample.parts self.now.controls.now) self.now.x self.now.y) PanelFault.ControlBeyond) (Ok (map (part_read self.now.panel.now (map K.Sample.parts self.now.controls.now) self.now.x self.now.y) (range_with_len 1 K.Sample.PARTS))) }
     {
         let mut sample = self.controls[0];
-        for k in 0..K::PARTS {
-            let part = self.part_reading(k + 1).ok_or(PanelFault::ControlBeyond)?;
-            sample = sample.replace_part(k + 1, part);
+        for part in 1..=K::PARTS {
+            let value = self.part_reading(part).ok_or(PanelFault::ControlBeyond)?;
+            sample = sample.replace_part(part, value);
         }
         Ok(sample)
     }

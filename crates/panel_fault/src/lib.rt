@@ -45,7 +45,7 @@ pub enum PanelFault {
 }
 
 impl PanelFault {
-    // The number of the refusal.
+    // The number of the refusal; by a match, since variants that hold something have no discriminants to cast.
     pub fn number(&self) -> u8
         ensures { result ≡ fault_number self.now }
     {

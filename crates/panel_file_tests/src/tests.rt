@@ -10,14 +10,13 @@ const HEIGHTS: [u8; 26] = [
 
 // The number, the section and the offset of a refusal, and zeros of a file that opens.
 fn verdict(file: &[u8]) -> (u8, u8, usize) {
-    match open(file) {
-        Ok(_) => (0, 0, 0),
-        Err(refusal) => (
+    open(file).err().map_or((0, 0, 0), |refusal| {
+        (
             refusal.fault.number(),
             refusal.section.number(),
             refusal.offset,
-        ),
-    }
+        )
+    })
 }
 
 // The verdict on the worked file with one byte changed.
@@ -31,9 +30,7 @@ fn with_byte(at: usize, byte: u8) -> (u8, u8, usize) {
 
 #[test]
 fn worked_file_opens(rt: HostRuntime) -> Result<(), Fail> {
-    let Ok(file) = open(&HEIGHTS) else {
-        return Err(Fail::new("refused"));
-    };
+    let file = open(&HEIGHTS)?;
     assert_eq!(rt; file.size.rows, 2);
     assert_eq!(rt; file.size.columns, 2);
     assert_eq!(rt; file.kind, Kind::Heights);
@@ -152,7 +149,7 @@ fn with_name(count: u8, last: u8) -> (u8, u8, usize) {
     let mut file = [97; 66];
     file[0..25].copy_from_slice(&HEIGHTS[0..25]);
     file[23] = count;
-    let end = 25 + count as usize;
+    let end = 25 + usize::from(count);
     if count == 0 || end > 66 {
         return verdict(&file[0..25]);
     }

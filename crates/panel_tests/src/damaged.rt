@@ -1,5 +1,5 @@
 // Grids that their host has damaged: what no solver takes or no reading reaches is refused, with its place, and nothing is stored.
-use crate::kit::Kit;
+use crate::kit::{Kit, point};
 use grid::kinds::{Height, Point};
 use line::solver::SolveFault;
 use panel::record::Order;
@@ -102,10 +102,6 @@ fn a_half_point(rt: HostRuntime) -> Result<(), Fail> {
         refused(2, 1, 1)
     );
     Ok(())
-}
-
-fn point(across: i32, along: i32, up: i32) -> Point {
-    Point { across, along, up }
 }
 
 // Two by three points, the last two points of row 1 as given; a refusal stores nothing of any part.

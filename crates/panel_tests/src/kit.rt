@@ -1,4 +1,5 @@
 // A panel with its three grids, and short forms of the calls on them.
+use grid::kinds::Point;
 use grid::sample::Sample;
 use line::elimination::Elimination;
 use line::solver::LineSolver;
@@ -27,6 +28,7 @@ impl<K: Sample, const N: usize> Kit<K, N> {
         let halves = [blank; N];
         let controls = [blank; N];
         let panel = Panel::make(rows, columns, order, &samples, &halves, &controls)?;
+        // By a match: the panel's crate keeps its pick to itself.
         let (first_lines, second_lines) = match order {
             Order::RowsFirst => (rows, columns),
             Order::ColumnsFirst => (columns, rows),
@@ -132,4 +134,8 @@ impl<K: Sample, const N: usize> Kit<K, N> {
 // The number of a refusal, and 0 of an acceptance.
 pub(crate) fn number<A: Drop>(answer: Result<A, PanelFault>) -> u8 {
     answer.err().map_or(0, |fault| fault.number())
+}
+
+pub(crate) fn point(across: i32, along: i32, up: i32) -> Point {
+    Point { across, along, up }
 }

@@ -1,7 +1,7 @@
 // Each limit on both sides: sizes, parts of samples, lines, the area of readings.
 ghost use Rattle.std.specs.Prelude.{◌≤◌, unsigned_abs};
 
-use crate::kit::{Kit, number};
+use crate::kit::{Kit, number, point};
 use grid::kinds::{Height, Point};
 use line::solver::SolveFault;
 use panel::record::{Order, Panel};
@@ -75,10 +75,6 @@ fn heights_of_make(rt: HostRuntime) {
     assert_eq!(rt; making(0, 100_001), beyond(2, 3, 1));
     assert_eq!(rt; making(i32::MIN, 0), beyond(2, 2, 1));
     assert_eq!(rt; making(0, i32::MAX), beyond(2, 3, 1));
-}
-
-fn point(across: i32, along: i32, up: i32) -> Point {
-    Point { across, along, up }
 }
 
 // The same of points in column 3 of row 1 and column 1 of row 2.

@@ -1,12 +1,8 @@
 // A two by three panel of points: each part is fitted and read as a panel of heights is, and no part mixes with another.
-use crate::kit::Kit;
+use crate::kit::{Kit, point};
 use grid::kinds::Point;
 use panel::record::Order;
 use std::test::Fail;
-
-fn point(across: i32, along: i32, up: i32) -> Point {
-    Point { across, along, up }
-}
 
 // 15 at row 1 and column 1 across, at row 1 and column 2 along, at row 2 and column 3 up; all else 0.
 fn peaks() -> [Point; 6] {

@@ -183,10 +183,8 @@ fn a_probe_is_read_once_fitted(rt: HostRuntime) -> Result<(), Fail> {
     kit.probe(1, 2, Height(6))?;
     kit.first(1)?;
     kit.seconds()?;
-    let Ok((height, tolerance)) = kit.read(32, 64) else {
-        return Err(Fail::new("refused"));
-    };
+    let (height, tolerance) = kit.read(32, 64)?;
     assert_eq!(rt; tolerance, 13);
-    assert!(rt; 95 <= height.0 && height.0 <= 97);
+    assert!(rt; (95..=97).contains(&height.0));
     Ok(())
 }
