@@ -98,9 +98,9 @@ fn show_answer(rt: &HostRuntime, line: &[i64], answer: &[i64]) -> io::Result<()>
 }
 
 fn show_refusal(rt: &HostRuntime, fault: SolveFault) -> io::Result<()> {
-    print!(rt; "  refused {}", fault.number())?;
-    if let SolveFault::Beyond(place) = fault {
-        print!(rt; " at place {place}")?;
+    let number = fault.number();
+    match fault {
+        SolveFault::Beyond(place) => println!(rt; "  refused {number} at place {place}: {fault}"),
+        _ => println!(rt; "  refused {number}: {fault}"),
     }
-    println!(rt; ": {fault}")
 }

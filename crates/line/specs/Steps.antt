@@ -1,5 +1,5 @@
 -- Numbers g and x of the two sweeps, each step of them met within c: then x has the sums k within 12 c.
-use Rattle.std.specs.Prelude.{◌≡◌, ℕ, zero, suc, ◌+◌, ◌*◌, ◌≤◌, ℤ, pos, ◌+ℤ◌, ◌-ℤ◌, ◌*ℤ◌, unsigned_abs}
+use Rattle.std.specs.Prelude.{◌≡◌, ℕ, zero, suc, ◌+◌, ◌*◌, ◌<◌, ◌≤◌, ℤ, pos, ◌+ℤ◌, ◌-ℤ◌, ◌*ℤ◌, unsigned_abs}
 use Rattle.std.proofs.Common.{arith, add-one}
 use Rattle.std.proofs.lemmas.Int.{ints}
 use Rattle.std.proofs.lemmas.Bool.Decides.{nat_tests}
@@ -8,6 +8,17 @@ use Rattle.line.specs.FixedPoint.{denominator}
 use Rattle.line.specs.Pivot.{diagonal, pivot}
 use Rattle.line.specs.Pivots.{divisor, divisor_is, divisor_high, rest, rest_is, rest_high}
 use Rattle.line.specs.Row.{row}
+
+-- The last row, a row between the ends, and a row of zeros before the first.
+
+diagonal_last : (n : ℕ) → diagonal n n ≡ 5
+diagonal_last n = grind arith
+
+diagonal_inner : (n j : ℕ) → 1 < j → j < n → diagonal n j ≡ 4
+diagonal_inner n j p q = grind arith
+
+nothing : (q : ℕ) (x : ℤ) (b : ℕ) → unsigned_abs ((pos q *ℤ pos 0 -ℤ pos q *ℤ pos 0) +ℤ pos 0 *ℤ x) ≤ b
+nothing q x b = omega (arith, ints)
 
 -- the doubled points count on the diagonal, and 0 stands beyond the ends
 
@@ -31,7 +42,7 @@ module _ (n c : ℕ) (k g x : ℕ → ℤ) (two : 2 ≤ n) (some : 1 ≤ c) (sta
 
   before_first : unsigned_abs ((pos denominator *ℤ pos 0 -ℤ pos denominator *ℤ g 0) +ℤ pos (pivot n 0) *ℤ x 1) ≤ c * denominator
   unfolding pivot
-  before_first = omega (arith, ints)
+  before_first = rw start (nothing denominator (x 1) (c * denominator))
 
   pub rows_near : (j : ℕ) → OnLine n j → unsigned_abs (sum_at n x j -ℤ k j) ≤ 12 * c
   rows_near zero on = absurd (omega arith)

@@ -86,6 +86,8 @@ impl LineSolver for Elimination {
 
     ghost graded = { refl };
 
+    // As a part of its caller: else a fit of points takes a fourteenth more instructions.
+    #[inline]
     fn solve(&self, line: &[i64], out: &mut [i64]) -> Result<(), SolveFault>
         ensures answer { result ≡ solve_answer line.now (length out.old) }
         ensures after { out.new ≡ solve_after elimination line.now out.old }

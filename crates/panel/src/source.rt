@@ -132,7 +132,9 @@ pub(crate) fn fit_line<K: Sample, S: LineSolver>(
     ensures same { is_err result ≡ true → target.new ≡ target.old }
 {
     let mut parts = [[0; LONGEST]; 4];
-    source.solve(number, solver, &mut parts)?;
+    // By name, so that an edit can come between what was answered and what is stored.
+    let answer = source.solve(number, solver, &mut parts);
+    answer?;
     let solved = Solved { parts: &parts };
     solved.store(target, source.lane);
     Ok(())

@@ -1,10 +1,9 @@
-use Rattle.std.proofs.Common.{◌≡◌, ◌+◌, ◌-◌, map, Some, None, Err, sym, ap, ◌∙◌, subst, subst₂, arith, w32, SFits, rules}
+use Rattle.std.proofs.Common.{◌≡◌, ◌+◌, ◌-◌, map, Some, None, Err, sym, ap, ◌∙◌, subst, arith, w32, SFits, rules}
 use Rattle.surface.specs.Patch.{within_reach}
 use Rattle.panel_fault.specs.declared.PanelFault.TheVariants.{ControlBeyond}
 use Rattle.panel.specs.Reading.{around, reading, sample_shown}
 use Rattle.grid.proofs.Chains.{exit}
 use Rattle.panel.proofs.ReadCall.{ReadTo, none_read, within_out, sampled_beyond, read_none, read_more, read_all}
-use Rattle.panel.proofs.view.View.reading.Goals.{else-loop-part-test, then-loop-part-test+in_ok-value+else-part-part-end}
 use Rattle.panel.proofs.view.View.reading.Goals as goal
 
 pub loop-part-init : goal.loop-part-init
@@ -39,16 +38,6 @@ pub returns : goal.returns
 returns g c =
     let p = c.args.self.now.panel.now in
     let controls = map g.K.Sample.parts c.args.self.now.controls.now in
-    read_all p controls c.args.self.now.x c.args.self.now.y (g.K.Sample.parts c.loop-part-test.sample) g.K.Sample.PARTS (g.met.K.Sample.counted.2 c.loop-part-test.sample)
-    (elim c.loop-part-test.branch [
-      | else-loop-part-test w ↦
-          let done : c.loop-part.part - 1 ≡ g.K.Sample.PARTS = omega (arith, c.PARTS-part-end.ensures, w.loop-part-test.false, g.met.K.Sample.counted.0) in
-          subst₂ (ReadTo p controls c.args.self.now.x c.args.self.now.y) done (ap g.K.Sample.parts (sym w.sample-is)) c.loop-part.invariant.so_far
-      | then-loop-part-test+in_ok-value+else-part-part-end w ↦
-          let some : w.part_reading.result ≡ Some w.in_ok-value.value = search rules in
-          let fits : SFits w32 w.in_ok-value.value = search rules in
-          let done : c.loop-part.part ≡ g.K.Sample.PARTS = omega (arith, c.PARTS-part-end.ensures) in
-          subst₂ (ReadTo p controls c.args.self.now.x c.args.self.now.y) done (ap g.K.Sample.parts (sym w.sample-is))
-          (read_more p controls c.args.self.now.x c.args.self.now.y (g.K.Sample.parts c.loop-part.sample) c.loop-part.part _ w.in_ok-value.value c.loop-part.invariant.counted
-          (omega (arith, c.PARTS-part-end.ensures, g.met.K.Sample.counted.2 c.loop-part.sample)) c.loop-part.invariant.so_far (sym some ∙ w.part_reading.ensures) fits w.replace_part-sample.ensures)
-    ])
+    let done : c.loop-part.part - 1 ≡ g.K.Sample.PARTS = omega (arith, c.PARTS-part-end.ensures, g.met.K.Sample.counted.0) in
+    read_all p controls c.args.self.now.x c.args.self.now.y (g.K.Sample.parts c.loop-part.sample) g.K.Sample.PARTS (g.met.K.Sample.counted.2 c.loop-part.sample)
+    (subst (λ n. ReadTo p controls c.args.self.now.x c.args.self.now.y n (g.K.Sample.parts c.loop-part.sample)) done c.loop-part.invariant.so_far)
